@@ -1,0 +1,106 @@
+-- Laws of words: a word is its byte, its parity bit and its end mark, and the three are read back from it. Assumes nothing.
+use Prim.Native.Nat.{ℕ, zero, suc, _+_, _*_, _/_, _%_, _^_, _≤_, _<_}
+use native.Mathlib.Nat.{mod-lt, zero-lt-suc, div-one, div-div-eq-div-mul, pow-succ', zero-add, add-zero, add-assoc}
+use native.Mathlib.Omega.{arith}
+use native.Mathlib.Numerals.{add-one}
+use mathlib.Core.Path.{_≡_, refl, sym, ap, ap₂, _∙_, subst}
+use mathlib.Core.Bool.{Bool, true, false}
+use mathlib.Core.List.{List, [], _∷_, _++_, map}
+use lib.Arith.{lt-one}
+use lib.Pow.{shr-lt, field, mod-mod-pow}
+use lib.Count.{onesIn, ones, ones-step}
+use lib.Dec.{eqb, ltb}
+use lib.ListN.{length, getD}
+use borrow.Author.Tests.{eq-eqb, ne-eqb, eqb-true, eqb-false, le-ltb, ltb-false}
+use Rattle.words.specs.Word.{parityOf, wordOf, wordsOf, oddOnes, tooLarge, marked, markBit, byteOf}
+
+-- the ones of a number are those among as many digits as it has
+pub ones-in : (k n : ℕ) → n < 2 ^ k → ones n ≡ onesIn k n
+unfolding onesIn ones
+ones-in zero n h = ap ones (lt-one h)
+ones-in (suc k) n h =
+    ones-step n ∙ ap (λ (r : ℕ). n % 2 + r) (ones-in k (n / 2) (shr-lt k 1 (subst (λ (e : ℕ). n < 2 ^ e) (sym (add-one k)) h)))
+
+-- one digit more is counted on top
+ones-top : (k n : ℕ) → onesIn (suc k) n ≡ onesIn k n + n / 2 ^ k % 2
+unfolding onesIn
+ones-top zero n = omega (arith, div-one n)
+ones-top (suc k) n =
+    let half : n / 2 / 2 ^ k ≡ n / 2 ^ suc k = div-div-eq-div-mul n 2 (2 ^ k) ∙ ap (λ (d : ℕ). n / d) (sym (pow-succ' 2 k)) in
+    ap (λ (r : ℕ). n % 2 + r) (ones-top k (n / 2) ∙ ap (λ (q : ℕ). onesIn k (n / 2) + q % 2) half)
+    ∙ sym (add-assoc (n % 2) (onesIn k (n / 2)) (n / 2 ^ suc k % 2))
+
+-- the count of k digits looks at no other
+ones-mod : (k n : ℕ) → onesIn k (n % 2 ^ k) ≡ onesIn k n
+unfolding onesIn
+ones-mod zero n = refl
+ones-mod (suc k) n =
+    let low : n % 2 ^ suc k % 2 ≡ n % 2 = subst (λ (e : ℕ). n % 2 ^ e % 2 ≡ n % 2) (add-one k) (mod-mod-pow n k 1) in
+    let rest : n % 2 ^ suc k / 2 ≡ n / 2 % 2 ^ k = subst (λ (e : ℕ). n % 2 ^ e / 2 ≡ n / 2 % 2 ^ k) (add-one k) (field n k 1) in
+    ap₂ (λ (a r : ℕ). a + r) low (ap (onesIn k) rest ∙ ones-mod k (n / 2))
+
+pub parity-bit : (b : ℕ) → parityOf b < 2
+unfolding parityOf
+parity-bit b = mod-lt _ (zero-lt-suc 1)
+
+pub mark-bit : (e : Bool) → markBit e < 2
+mark-bit true = omega arith
+mark-bit false = omega arith
+
+mark-read : (e : Bool) → eqb (markBit e) 1 ≡ e
+mark-read true = refl
+mark-read false = refl
+
+mark-bit-of : (m : ℕ) → m < 2 → markBit (eqb m 1) ≡ m
+mark-bit-of m h = go (eqb m 1) refl
+  where
+    go : (t : Bool) → eqb m 1 ≡ t → markBit (eqb m 1) ≡ m
+    go true e = ap markBit e ∙ sym (eqb-true m 1 e)
+    go false e = ap markBit e ∙ (let ne : m ≡ 1 → ⊥ = eqb-false m 1 e in omega arith)
+
+-- two tests of equality agree where each equation gives the other
+pub eqb-same : (a b c d : ℕ) → (a ≡ b → c ≡ d) → (c ≡ d → a ≡ b) → eqb a b ≡ eqb c d
+eqb-same a b c d f g = go (eqb a b) refl
+  where
+    go : (t : Bool) → eqb a b ≡ t → eqb a b ≡ eqb c d
+    go true e = e ∙ sym (eq-eqb c d (f (eqb-true a b e)))
+    go false e = e ∙ sym (ne-eqb c d (λ q. eqb-false a b e (g q)))
+
+-- the nine bits have an odd number of ones exactly where bit 8 is the parity bit of the byte
+pub odd-parity : (w : ℕ) → oddOnes w ≡ eqb (w / 256 % 2) (parityOf (byteOf w))
+unfolding oddOnes parityOf
+odd-parity w =
+    let top : onesIn 9 w ≡ onesIn 8 w + w / 256 % 2 = ones-top 8 w in
+    let low : onesIn 8 (w % 256) ≡ onesIn 8 w = ones-mod 8 w in
+    eqb-same (onesIn 9 w % 2) 1 (w / 256 % 2) ((onesIn 8 (w % 256) + 1) % 2) (λ q. omega arith) (λ q. omega arith)
+
+-- what a reader finds in the word of a byte
+module _ (last : Bool) (b : ℕ) (h : b < 256) where
+  pub word-small : tooLarge (wordOf last b) ≡ false
+  unfolding wordOf
+  word-small = le-ltb 1023 (wordOf last b) (omega (arith, parity-bit b, mark-bit last))
+
+  pub word-byte : byteOf (wordOf last b) ≡ b
+  unfolding wordOf
+  word-byte = omega (arith, parity-bit b, mark-bit last)
+
+  pub word-odd : oddOnes (wordOf last b) ≡ true
+  unfolding wordOf
+  word-odd =
+      let same : parityOf (byteOf (wordOf last b)) ≡ parityOf b = ap parityOf word-byte in
+      let bit : wordOf last b / 256 % 2 ≡ parityOf b = omega (arith, parity-bit b, mark-bit last) in
+      odd-parity (wordOf last b) ∙ eq-eqb _ _ (bit ∙ sym same)
+
+  pub word-marked : marked (wordOf last b) ≡ last
+  unfolding wordOf
+  word-marked =
+      let bit : wordOf last b / 512 % 2 ≡ markBit last = omega (arith, parity-bit b, mark-bit last) in
+      ap (λ (m : ℕ). eqb m 1) bit ∙ mark-read last
+
+-- a word that passes is the word of its byte
+pub word-back : (w : ℕ) → tooLarge w ≡ false → oddOnes w ≡ true → wordOf (marked w) (byteOf w) ≡ w
+unfolding wordOf
+word-back w small odd =
+    let bit : w / 256 % 2 ≡ parityOf (byteOf w) = eqb-true _ _ (sym (odd-parity w) ∙ odd) in
+    let mark : markBit (marked w) ≡ w / 512 % 2 = mark-bit-of (w / 512 % 2) (mod-lt _ (zero-lt-suc 1)) in
+    omega (arith, ltb-false 1023 w small)

@@ -1,0 +1,42 @@
+// A word of the stream: data bits 0 to 7, parity bit 8, end mark bit 9.
+use super::parity::parity;
+
+ghost use mathlib.Core.Path.{_≡_};
+ghost use Rattle.words.specs.Word.{wordOf, tooLarge, oddOnes, marked, byteOf};
+
+// The word of a byte, with the end mark where it is the last one.
+pub fn word(byte: u8, last: bool) -> u16
+    ensures { λ r. ⌜ r ≡ wordOf last byte ⌝ }
+{
+    let plain = byte as u16 + 256 * parity(byte);
+    if last { plain + 512 } else { plain }
+}
+
+// Whether a place of 16 bits holds more than ten.
+pub fn too_large(word: u16) -> bool
+    ensures { λ r. ⌜ r ≡ tooLarge word ⌝ }
+{
+    1023 < word
+}
+
+// Whether bits 0 to 8 have an odd number of ones.
+pub fn odd_ones(word: u16) -> bool
+    ensures { λ r. ⌜ r ≡ oddOnes word ⌝ }
+{
+    let bit = word / 256 % 2;
+    bit == parity((word % 256) as u8)
+}
+
+// Whether the end mark is set.
+pub fn marked(word: u16) -> bool
+    ensures { λ r. ⌜ r ≡ marked word ⌝ }
+{
+    word / 512 % 2 == 1
+}
+
+// The data bits.
+pub fn byte(word: u16) -> u8
+    ensures { λ r. ⌜ r ≡ byteOf word ⌝ }
+{
+    (word % 256) as u8
+}
