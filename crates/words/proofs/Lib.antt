@@ -1,3 +1,4 @@
 -- The laws that belong to no one function.
 pub mod ByteLaws
+pub mod FillLaws
 pub mod WordLaws

@@ -1,18 +1,18 @@
 -- Laws of words: a word is its byte, its parity bit and its end mark, and the three are read back from it. Assumes nothing.
 use Prim.Native.Nat.{ℕ, zero, suc, _+_, _*_, _/_, _%_, _^_, _≤_, _<_}
-use native.Mathlib.Nat.{mod-lt, zero-lt-suc, div-one, div-div-eq-div-mul, pow-succ', zero-add, add-zero, add-assoc}
+use native.Mathlib.Nat.{mod-lt, zero-lt-suc, div-one, div-div-eq-div-mul, pow-succ', add-assoc, le-of-suc-le-suc, not-suc-le-zero}
 use native.Mathlib.Omega.{arith}
 use native.Mathlib.Numerals.{add-one}
 use mathlib.Core.Path.{_≡_, refl, sym, ap, ap₂, _∙_, subst}
 use mathlib.Core.Bool.{Bool, true, false}
-use mathlib.Core.List.{List, [], _∷_, _++_, map}
+use mathlib.Core.List.{List, [], _∷_}
 use lib.Arith.{lt-one}
 use lib.Pow.{shr-lt, field, mod-mod-pow}
 use lib.Count.{onesIn, ones, ones-step}
-use lib.Dec.{eqb, ltb}
+use lib.Dec.{eqb, eqb·zero-suc, eqb·suc-suc}
 use lib.ListN.{length, getD}
 use borrow.Author.Tests.{eq-eqb, ne-eqb, eqb-true, eqb-false, le-ltb, ltb-false}
-use Rattle.words.specs.Word.{parityOf, wordOf, wordsOf, oddOnes, tooLarge, marked, markBit, byteOf}
+use Rattle.words.specs.Word.{parityOf, wordOf, wordsOf, oddOnes, tooLarge, marked, markBit, byteOf, isLast}
 
 -- the ones of a number are those among as many digits as it has
 pub ones-in : (k n : ℕ) → n < 2 ^ k → ones n ≡ onesIn k n
@@ -104,3 +104,21 @@ word-back w small odd =
     let bit : w / 256 % 2 ≡ parityOf (byteOf w) = eqb-true _ _ (sym (odd-parity w) ∙ odd) in
     let mark : markBit (marked w) ≡ w / 512 % 2 = mark-bit-of (w / 512 % 2) (mod-lt _ (zero-lt-suc 1)) in
     omega (arith, ltb-false 1023 w small)
+
+-- as many words as bytes
+pub words-length : (bs : List ℕ) → length (wordsOf bs) ≡ length bs
+unfolding wordsOf
+words-length [] = refl
+words-length (b ∷ bs) = ap suc (words-length bs)
+
+last-length : (bs : List ℕ) → isLast bs ≡ eqb 0 (length bs)
+last-length [] = refl
+last-length (b ∷ bs) = sym (eqb·zero-suc (length bs))
+
+-- each word is its byte's, marked where it is the last
+pub words-at : (bs : List ℕ) (i : ℕ) → i < length bs → getD (wordsOf bs) i 0 ≡ wordOf (eqb (suc i) (length bs)) (getD bs i 0)
+unfolding wordsOf
+words-at [] i h = absurd (not-suc-le-zero h)
+words-at (b ∷ bs) zero h = ap (λ (e : Bool). wordOf e b) (last-length bs ∙ sym (eqb·suc-suc 0 (length bs)))
+words-at (b ∷ bs) (suc i) h =
+    words-at bs i (le-of-suc-le-suc h) ∙ ap (λ (e : Bool). wordOf e (getD bs i 0)) (sym (eqb·suc-suc (suc i) (length bs)))

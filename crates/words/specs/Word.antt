@@ -22,11 +22,15 @@ markBit false = 0
 unfoldable pub wordOf : Bool → ℕ → ℕ
 wordOf last b = b + 256 * parityOf b + 512 * markBit last
 
+-- a byte with nothing after it is the last
+abbrev pub isLast : List ℕ → Bool
+isLast [] = true
+isLast (b ∷ bs) = false
+
 -- "The end mark is set on the last word only": the words of a sample's bytes
 unfoldable pub wordsOf : List ℕ → List ℕ
 wordsOf [] = []
-wordsOf (b ∷ []) = wordOf true b ∷ []
-wordsOf (b ∷ c ∷ bs) = wordOf false b ∷ wordsOf (c ∷ bs)
+wordsOf (b ∷ bs) = wordOf (isLast bs) b ∷ wordsOf bs
 
 -- reply 21: "a word above 1023"
 abbrev pub tooLarge : ℕ → Bool

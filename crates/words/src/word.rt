@@ -1,6 +1,5 @@
 // A word of the stream: data bits 0 to 7, parity bit 8, end mark bit 9.
 use super::parity::parity;
-
 ghost use mathlib.Core.Path.{_≡_};
 ghost use Rattle.words.specs.Word.{wordOf, tooLarge, oddOnes, marked, byteOf};
 

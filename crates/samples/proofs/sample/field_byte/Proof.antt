@@ -1,0 +1,60 @@
+-- `samples::sample::field_byte` meets its contract: the tests find the field that the place falls into. Assumes nothing.
+use borrow.Author.Needs.{needs}
+use mathlib.Core.Path.{sym, _∙_}
+use Rattle.samples.proofs.SampleLaws.{at-header, at-source, at-stamp, at-user, at-none}
+use Rattle.samples.proofs.sample.field_byte.Statement.{statement}
+use Rattle.samples.proofs.sample.field_byte.Tie as tie
+
+byte-at-requires : tie.Need-byte-at-requires
+byte-at-requires c κs = search needs
+
+returns : tie.Need-returns
+returns c =
+    let a = c .before .before .args in
+    c .byte-at .ensures ∙ sym (at-header (a .header) (a .source) (a .stamp) (a .user) (a .place) (search needs))
+
+byte-at-requires-2 : tie.Need-byte-at-requires-2
+byte-at-requires-2 c κs = search needs
+
+returns-2 : tie.Need-returns-2
+returns-2 c =
+    let a = c .before .before .before .args in
+    c .byte-at2 .ensures
+    ∙ sym (at-source (a .header) (a .source) (a .stamp) (a .user) (a .place) (search needs) (search needs))
+
+byte-at-requires-3 : tie.Need-byte-at-requires-3
+byte-at-requires-3 c κs = search needs
+
+returns-3 : tie.Need-returns-3
+returns-3 c =
+    let a = c .before .before .before .before .args in
+    c .byte-at3 .ensures
+    ∙ sym (at-stamp (a .header) (a .source) (a .stamp) (a .user) (a .place) (search needs) (search needs))
+
+byte-at-requires-4 : tie.Need-byte-at-requires-4
+byte-at-requires-4 c κs = search needs
+
+returns-4 : tie.Need-returns-4
+returns-4 c =
+    let a = c .before .before .before .before .before .args in
+    c .byte-at4 .ensures
+    ∙ sym (at-user (a .header) (a .source) (a .stamp) (a .user) (a .place) (search needs) (search needs))
+
+returns-5 : tie.Need-returns-5
+returns-5 c =
+    let a = c .before .before .before .before .args in
+    sym (at-none (a .header) (a .source) (a .stamp) (a .user) (a .place) (search needs))
+
+pub field-byte-spec : {M : Type 1} → statement M
+field-byte-spec =
+    tie.close
+    (tie.spec
+    byte-at-requires
+    returns
+    byte-at-requires-2
+    returns-2
+    byte-at-requires-3
+    returns-3
+    byte-at-requires-4
+    returns-4
+    returns-5)

@@ -1,0 +1,79 @@
+// A sample by value, and the byte at each of its places.
+use words::byte::byte_at;
+ghost use mathlib.Core.Path.{_≡_};
+ghost use lib.ListN.{getD};
+ghost use Rattle.samples.specs.Layout.{firstChip, resource, fieldBytes, counterBytes, sampleBytes, sampleLength};
+
+// Wide fields first, and the header as wide as the source address: no padding (88 bytes).
+pub struct Sample {
+    pub user: u64,
+    pub stamp: u64,
+    pub source: u32,
+    pub header: u32,
+    pub counters: [u32; 16],
+}
+
+// Whether the header is a Resource sample's: bit 3.
+pub fn is_resource(header: u32) -> bool
+    ensures { λ r. ⌜ r ≡ resource header ⌝ }
+{
+    header / 8 % 2 == 1
+}
+
+// How many words a sample with this header has.
+pub fn word_count(header: u32) -> usize
+    ensures { λ r. ⌜ r ≡ sampleLength firstChip (resource header) ⌝ }
+{
+    if is_resource(header) { 80 } else { 16 }
+}
+
+// The byte at a place of the four fields that every sample has; 0 past them.
+pub fn field_byte(header: u32, source: u32, stamp: u64, user: u64, place: usize) -> u8
+    ensures { λ r. ⌜ r ≡ getD (fieldBytes firstChip header source stamp user) place 0 ⌝ }
+{
+    if place < 1 {
+        return byte_at(header as u64, place);
+    }
+    if place < 5 {
+        return byte_at(source as u64, place - 1);
+    }
+    if place < 10 {
+        return byte_at(stamp, place - 5);
+    }
+    if place < 16 {
+        return byte_at(user, place - 10);
+    }
+    0
+}
+
+// The byte at a place of the sixteen counters; 0 past them.
+pub fn counter_byte(counters: [u32; 16], place: usize) -> u8
+    ensures { λ r. ⌜ r ≡ getD (counterBytes counters) place 0 ⌝ }
+{
+    let i = place / 4;
+    if i < 16 {
+        byte_at(counters[i] as u64, place % 4)
+    } else {
+        0
+    }
+}
+
+// The byte at a place of a sample; 0 past its end.
+pub fn sample_byte(sample: Sample, place: usize) -> u8
+    ensures { λ r. ⌜ r ≡ getD (sampleBytes firstChip sample) place 0 ⌝ }
+{
+    if place < 16 {
+        return field_byte(
+            sample.header,
+            sample.source,
+            sample.stamp,
+            sample.user,
+            place,
+        );
+    }
+    if is_resource(sample.header) {
+        let counters = sample.counters;
+        return counter_byte(counters, place - 16);
+    }
+    0
+}

@@ -1,0 +1,84 @@
+// The writer: a sample's words into a lent buffer.
+use super::sample::Sample;
+use super::sample::is_resource;
+use super::sample::sample_byte;
+use super::sample::word_count;
+use words::word::word;
+ghost use mathlib.Core.Path.{_≡_};
+ghost use mathlib.Core.List.{_++_};
+ghost use Prim.Native.Nat.{_≤_};
+ghost use lib.ListN.{length, drop};
+ghost use Rattle.samples.specs.Layout.{firstChip, resource, sampleLength, sampleWords};
+ghost use Rattle.samples.specs.Write.{allZero, writable, writeAnswer, writeBuffer};
+
+// What writing a sample answers.
+pub enum Written {
+    // How many words were written.
+    Words(usize),
+    // A field above its width, a header bit that must be zero, or a Trace sample with counters.
+    Unfit,
+    // A buffer too short.
+    Short,
+}
+
+// Puts a sample's 16 or 80 words at the buffer's start and leaves the rest; a refusal leaves it all.
+pub fn write(sample: Sample, out: &mut [u16]) -> Written
+    ensures { λ r. ⌜ r ≡ writeAnswer firstChip sample (length (now (out .entry))) ⌝ }
+    ensures { λ r. ⌜ now (out .exit) ≡ writeBuffer firstChip sample (now (out .entry)) ⌝ }
+{
+    if can_write(sample) {
+        let count = word_count(sample.header);
+        if count <= out.len() {
+            fill(sample, count, out);
+            return Written::Words(count);
+        }
+        return Written::Short;
+    }
+    Written::Unfit
+}
+
+// Whether each field is within its width, header bits 5 to 7 are clear, and a Trace sample has no counters.
+pub fn can_write(sample: Sample) -> bool
+    ensures { λ r. ⌜ r ≡ writable firstChip sample ⌝ }
+{
+    if 32 <= sample.header {
+        return false;
+    }
+    if 1099511627776 <= sample.stamp {
+        return false;
+    }
+    if 281474976710656 <= sample.user {
+        return false;
+    }
+    if is_resource(sample.header) {
+        return true;
+    }
+    let counters = sample.counters;
+    all_zero(counters)
+}
+
+fn all_zero(counters: [u32; 16]) -> bool
+    ensures { λ r. ⌜ r ≡ allZero counters ⌝ }
+{
+    let mut i = 0;
+    while i < 16 {
+        if counters[i] != 0 {
+            return false;
+        }
+        i += 1;
+    }
+    true
+}
+
+// The sample's words, from the buffer's start.
+fn fill(sample: Sample, count: usize, out: &mut [u16])
+    requires { ⌜ count ≡ sampleLength firstChip (resource (sample .header)) ⌝ }
+    requires { ⌜ count ≤ length (now out) ⌝ }
+    ensures { λ _. ⌜ now (out .exit) ≡ sampleWords firstChip sample ++ drop count (now (out .entry)) ⌝ }
+{
+    let mut i = 0;
+    while i < count {
+        out[i] = word(sample_byte(sample, i), i + 1 == count);
+        i += 1;
+    }
+}
