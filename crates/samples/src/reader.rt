@@ -1,1 +1,194 @@
-// to come
+// The reader: the first sample of a part of a stream.
+use super::sample::Sample;
+use super::sample::is_resource;
+use super::sample::word_count;
+use words::word::byte;
+use words::word::marked;
+use words::word::odd_ones;
+use words::word::too_large;
+ghost use mathlib.Core.Path.{_≡_};
+ghost use mathlib.Core.Bool.{_&&_};
+ghost use mathlib.Core.List.{map};
+ghost use lib.Dec.{eqb, leb};
+ghost use Prim.Native.Nat.{_+_, _<_, _≤_};
+ghost use lib.ListN.{length, take, drop};
+ghost use Rattle.words.specs.Bytes.{number};
+ghost use Rattle.words.specs.Word.{byteOf};
+ghost use Rattle.samples.specs.Layout.{firstChip, counterWidths};
+ghost use Rattle.samples.specs.Read.{faultAt, gather, isGood, readPart, refusal, sampleOf, scan, wanted};
+
+// What a reader finds of a word, or of the words of a part.
+pub enum Answer {
+    Good,
+    Unfinished,
+    TooLarge,
+    Parity,
+    Header,
+    Mark,
+}
+
+// The first sample and how many words it took; zeros beside any answer but Good.
+pub struct Reading {
+    pub sample: Sample,
+    pub count: usize,
+    pub answer: Answer,
+}
+
+// Reads the first sample of a part; what comes after it is not looked at.
+pub fn read(part: &[u16]) -> Reading
+    ensures { λ r. ⌜ r ≡ readPart firstChip (now (part .entry)) ⌝ }
+{
+    if part.len() == 0 {
+        return refused(Answer::Unfinished);
+    }
+    let count = word_count(byte(part[0]) as u32);
+    let found = scan(part, count);
+    if is_good(found) {
+        let sample = decode(part);
+        return Reading {
+            sample,
+            count,
+            answer: Answer::Good,
+        };
+    }
+    refused(found)
+}
+
+fn is_good(answer: Answer) -> bool
+    ensures { λ r. ⌜ r ≡ isGood answer ⌝ }
+{
+    match answer {
+        Answer::Good => true,
+        Answer::Unfinished => false,
+        Answer::TooLarge => false,
+        Answer::Parity => false,
+        Answer::Header => false,
+        Answer::Mark => false,
+    }
+}
+
+// Nothing read, and why.
+fn refused(answer: Answer) -> Reading
+    ensures { λ r. ⌜ r ≡ refusal answer ⌝ }
+{
+    Reading {
+        sample: Sample {
+            user: 0,
+            stamp: 0,
+            source: 0,
+            header: 0,
+            counters: [0; 16],
+        },
+        count: 0,
+        answer,
+    }
+}
+
+// The first bad word of a sample of `count` words decides.
+fn scan(part: &[u16], count: usize) -> Answer
+    requires { ⌜ 0 < count ⌝ }
+    ensures { λ r. ⌜ r ≡ scan count 0 (now (part .entry)) ⌝ }
+{
+    let mut i = 0;
+    while i < part.len() {
+        let found = fault_at(count, i, part[i]);
+        if !is_good(found) {
+            return found;
+        }
+        i += 1;
+        if i == count {
+            return Answer::Good;
+        }
+    }
+    Answer::Unfinished
+}
+
+// What is wrong with the word at a place of a sample of `count` words.
+fn fault_at(count: usize, place: usize, word: u16) -> Answer
+    requires { ⌜ place < count ⌝ }
+    ensures { λ r. ⌜ r ≡ faultAt count place word ⌝ }
+{
+    if too_large(word) {
+        return Answer::TooLarge;
+    }
+    if odd_ones(word) {
+        if bad_header(place, word) {
+            return Answer::Header;
+        }
+        let last = place + 1 == count;
+        let mark = marked(word);
+        if last {
+            if mark {
+                return Answer::Good;
+            }
+            return Answer::Mark;
+        }
+        if mark {
+            return Answer::Mark;
+        }
+        return Answer::Good;
+    }
+    Answer::Parity
+}
+
+// Whether the word is a sample's first and has header bits 5 to 7 set.
+fn bad_header(place: usize, word: u16) -> bool
+    ensures { λ r. ⌜ r ≡ (eqb place 0 && leb 32 (byteOf word)) ⌝ }
+{
+    if place == 0 { 32 <= byte(word) } else { false }
+}
+
+// The sample whose words stand at the start of the part.
+fn decode(part: &[u16]) -> Sample
+    requires { ⌜ wanted firstChip (now part) ≤ length (now part) ⌝ }
+    ensures { λ r. ⌜ r ≡ sampleOf firstChip (map byteOf (now (part .entry))) ⌝ }
+{
+    let header = number_at(part, 0, 1) as u32;
+    let source = number_at(part, 1, 4) as u32;
+    let stamp = number_at(part, 5, 5);
+    let user = number_at(part, 10, 6);
+    if is_resource(header) {
+        return Sample {
+            user,
+            stamp,
+            source,
+            header,
+            counters: counters_of(part),
+        };
+    }
+    Sample {
+        user,
+        stamp,
+        source,
+        header,
+        counters: [0; 16],
+    }
+}
+
+// The sixteen counters after the fields.
+fn counters_of(part: &[u16]) -> [u32; 16]
+    requires { ⌜ 80 ≤ length (now part) ⌝ }
+    ensures { λ r. ⌜ r ≡ gather counterWidths (drop 16 (map byteOf (now (part .entry)))) ⌝ }
+{
+    let mut counters = [0u32; 16];
+    let mut i = 0;
+    while i < 16 {
+        counters[i] = number_at(part, 16 + 4 * i, 4) as u32;
+        i += 1;
+    }
+    counters
+}
+
+// The number that the bytes of `size` words from `start` on give, low byte first.
+fn number_at(part: &[u16], start: usize, size: usize) -> u64
+    requires { ⌜ (start + size ≤ length (now part)) × (size ≤ 8) ⌝ }
+    ensures { λ r. ⌜ r ≡ number (take size (drop start (map byteOf (now (part .entry))))) ⌝ }
+{
+    let mut sum = 0;
+    let mut left = size;
+    while 0 < left {
+        left -= 1;
+        sum = sum * 256 + byte(part[start + left]) as u64;
+    }
+    sum
+}

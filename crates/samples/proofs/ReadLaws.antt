@@ -1,0 +1,136 @@
+-- Laws of the reader's definitions: a word's fault by its five tests, the scan one word at a time, and the numbers that bytes
+-- give. Assumes nothing.
+use Prim.Native.Nat.{ℕ, zero, suc, _+_, _-_, _*_, _^_, _≤_, _<_}
+use native.Mathlib.Nat.{mod-lt, zero-lt-suc, lt-of-lt-of-le, pow-le-pow-right, le-of-suc-le-suc, suc-ne-zero}
+use native.Mathlib.Omega.{arith}
+use mathlib.Core.Path.{_≡_, refl, sym, ap, ap₂, _∙_, subst}
+use mathlib.Core.Bool.{Bool, true, false, cond, _&&_, false≢true}
+use mathlib.Core.List.{List, [], _∷_, map}
+use lib.Dec.{eqb, leb}
+use lib.ListN.{length, getD, take, drop, replicate, length-take, List·getD-map}
+use lib.Seq.{drop-cons, drop-drop}
+use borrow.Author.Tests.{eqb-true}
+use Rattle.words.specs.Bytes.{number}
+use Rattle.words.specs.Word.{tooLarge, oddOnes, marked, byteOf}
+use Rattle.words.proofs.ByteLaws.{number-below}
+use Rattle.samples.specs.Read.{faultAt, gather, isGood, orElse, readAnswer, readPart, refusal, sampleOf, scan, wanted}
+use Rattle.samples.specs.Layout.{Widths, firstChip, counterWidths, resource}
+use Rattle.samples.specs.declared.sample.Sample.{Sample}
+use Rattle.samples.specs.declared.reader.Reading.{Reading}
+use Rattle.samples.specs.declared.reader.Answer.{Answer}
+use Rattle.samples.specs.declared.reader.Answer.the-variants.{Good, Unfinished, TooLarge, Parity, Header, Mark}
+
+-- a word's fault by what its tests say: too large, odd, a bad header, the last place, the mark
+abbrev pub faultBy : Bool → Bool → Bool → Bool → Bool → Answer
+faultBy large odd header last mark =
+    cond large TooLarge (cond odd (cond header Header (cond last (cond mark Good Mark) (cond mark Mark Good))) Parity)
+
+pub fault-by : (n place w : ℕ) {large odd header last mark : Bool} → tooLarge w ≡ large → oddOnes w ≡ odd → (eqb place 0 && leb 32 (byteOf w)) ≡ header → eqb (suc place) n ≡ last → marked w ≡ mark → faultAt n place w ≡ faultBy large odd header last mark
+unfolding faultAt
+fault-by n place w a b c d e = λ i. faultBy (a i) (b i) (c i) (d i) (e i)
+
+-- one word of the scan: a fault decides, and a good word leaves it to the rest
+module _ (n i : ℕ) (ws : List ℕ) (f : Answer) (h : i < length ws) (e : f ≡ faultAt n i (getD ws i 0)) where
+  scan-word : scan n i (drop i ws) ≡ orElse f (cond (eqb (suc i) n) Good (scan n (suc i) (drop (suc i) ws)))
+  unfolding scan
+  scan-word = ap (scan n i) (drop-cons ws i 0 h) ∙ ap (λ (a : Answer). orElse a (cond (eqb (suc i) n) Good (scan n (suc i) (drop (suc i) ws)))) (sym e)
+
+  pub scan-bad : isGood f ≡ false → scan n i (drop i ws) ≡ f
+  scan-bad b = scan-word ∙ ap (λ (g : Bool). cond g (cond (eqb (suc i) n) Good (scan n (suc i) (drop (suc i) ws))) f) b
+
+  pub scan-good : isGood f ≡ true → scan n i (drop i ws) ≡ cond (eqb (suc i) n) Good (scan n (suc i) (drop (suc i) ws))
+  scan-good g = scan-word ∙ ap (λ (g : Bool). cond g (cond (eqb (suc i) n) Good (scan n (suc i) (drop (suc i) ws))) f) g
+
+-- the bytes of words
+pub byte-map : (ws : List ℕ) (i : ℕ) → getD (map byteOf ws) i 0 ≡ byteOf (getD ws i 0)
+byte-map ws i = List·getD-map byteOf ws i 0
+
+pub map-below : (ws : List ℕ) (i : ℕ) → getD (map byteOf ws) i 0 < 256
+map-below ws i = rw (byte-map ws i) (mod-lt (getD ws i 0) (zero-lt-suc 255))
+
+-- one byte more at the low end
+pub number-step : (bs : List ℕ) (i k : ℕ) → i < length bs → number (take (suc k) (drop i bs)) ≡ getD bs i 0 + 256 * number (take k (drop (suc i) bs))
+unfolding number
+number-step bs i k h = ap (λ (l : List ℕ). number (take (suc k) l)) (drop-cons bs i 0 h)
+
+-- k bytes give a number below 256 ^ k
+pub take-below : (k : ℕ) (bs : List ℕ) → ((i : ℕ) → getD bs i 0 < 256) → (i : ℕ) → getD (take k bs) i 0 < 256
+take-below zero bs h i = zero-lt-suc 255
+take-below (suc k) [] h i = zero-lt-suc 255
+take-below (suc k) (b ∷ bs) h zero = h zero
+take-below (suc k) (b ∷ bs) h (suc i) = take-below k bs (λ j. h (suc j)) i
+
+pub number-take : (k : ℕ) (bs : List ℕ) → ((i : ℕ) → getD bs i 0 < 256) → number (take k bs) < 256 ^ k
+number-take k bs h =
+    let short : length (take k bs) ≤ k = omega (arith, length-take k bs) in
+    lt-of-lt-of-le (number-below (take k bs) (take-below k bs h)) (pow-le-pow-right (zero-lt-suc 255) short)
+
+pub drop-below : (k : ℕ) (bs : List ℕ) → ((i : ℕ) → getD bs i 0 < 256) → (i : ℕ) → getD (drop k bs) i 0 < 256
+drop-below zero bs h i = h i
+drop-below (suc k) [] h i = zero-lt-suc 255
+drop-below (suc k) (b ∷ bs) h i = drop-below k bs (λ j. h (suc j)) i
+
+pub is-good : (a : Answer) → isGood a ≡ true → a ≡ Good
+is-good Good e = refl
+is-good Unfinished e = absurd (false≢true e)
+is-good TooLarge e = absurd (false≢true e)
+is-good Parity e = absurd (false≢true e)
+is-good Header e = absurd (false≢true e)
+is-good Mark e = absurd (false≢true e)
+
+-- a good scan has seen all the words that were wanted
+pub scan-enough : (n i : ℕ) (ws : List ℕ) → isGood (scan n i ws) ≡ true → n ≤ i + length ws
+unfolding scan
+scan-enough n i [] g = absurd (false≢true g)
+scan-enough n i (w ∷ ws) g = first (faultAt n i w) (eqb (suc i) n) refl g (scan-enough n (suc i) ws)
+  where
+    first : (f : Answer) (t : Bool) → eqb (suc i) n ≡ t → isGood (orElse f (cond t Good (scan n (suc i) ws))) ≡ true → (isGood (scan n (suc i) ws) ≡ true → n ≤ suc i + length ws) → n ≤ i + suc (length ws)
+    first Good true e q ih = omega (arith, eqb-true (suc i) n e)
+    first Good false e q ih = omega (arith, ih q)
+    first Unfinished t e q ih = absurd (false≢true q)
+    first TooLarge t e q ih = absurd (false≢true q)
+    first Parity t e q ih = absurd (false≢true q)
+    first Header t e q ih = absurd (false≢true q)
+    first Mark t e q ih = absurd (false≢true q)
+
+-- the header is the first word's byte
+pub header-byte : (ws : List ℕ) → number (take 1 (map byteOf ws)) ≡ byteOf (getD ws 0 0)
+unfolding number
+header-byte [] = refl
+header-byte (w ∷ ws) = omega arith
+
+-- a sample put together from the numbers at their places
+pub sample-read : (bs counters : List ℕ) (user stamp source header : ℕ) → user ≡ number (take 6 (drop 10 bs)) → stamp ≡ number (take 5 (drop 5 bs)) → source ≡ number (take 4 (drop 1 bs)) → header ≡ number (take 1 bs) → counters ≡ cond (resource header) (gather counterWidths (drop 16 bs)) (replicate 16 0) → _≡_ {A = Sample} (record { user = user; stamp = stamp; source = source; header = header; counters = counters }) (sampleOf firstChip bs)
+unfolding sampleOf gather
+sample-read bs counters user stamp source header u t s h c =
+    let u′ : user ≡ number (take 6 (drop 5 (drop 4 (drop 1 bs)))) =
+    u ∙ ap (λ (l : List ℕ). number (take 6 l)) (sym (ap (drop 5) (drop-drop 4 1 bs) ∙ drop-drop 5 5 bs)) in
+    let t′ : stamp ≡ number (take 5 (drop 4 (drop 1 bs))) = t ∙ ap (λ (l : List ℕ). number (take 5 l)) (sym (drop-drop 4 1 bs)) in
+    let c′ : counters ≡ cond (resource (number (take 1 bs))) (gather counterWidths (drop 16 bs)) (replicate 16 0) =
+    c ∙ ap (λ (n : ℕ). cond (resource n) (gather counterWidths (drop 16 bs)) (replicate 16 0)) h in
+    λ i. record { user = u′ i; stamp = t′ i; source = s i; header = h i; counters = c′ i }
+
+-- a number read from k words is below 256 ^ k
+pub number-read : (k start : ℕ) (ws : List ℕ) (x : ℕ) → x ≡ number (take k (drop start (map byteOf ws))) → x < 256 ^ k
+number-read k start ws x e = rw e (number-take k (drop start (map byteOf ws)) (drop-below start (map byteOf ws) (map-below ws)))
+
+-- the reader's answer, case by case
+module _ (w : Widths) (ws : List ℕ) where
+  pub read-good : (n : ℕ) (s : Sample) → n ≡ wanted w ws → isGood (scan n 0 ws) ≡ true → s ≡ sampleOf w (map byteOf ws) → _≡_ {A = Reading} (record { sample = s; count = n; answer = Good }) (readPart w ws)
+  unfolding readPart
+  read-good n s size good given =
+      let whole : scan (wanted w ws) 0 ws ≡ Good = ap (λ (k : ℕ). scan k 0 ws) (sym size) ∙ is-good (scan n 0 ws) good in
+      (λ i. record { sample = given i; count = size i; answer = Good })
+      ∙ sym (ap (λ (a : Answer). readAnswer a (wanted w ws) (sampleOf w (map byteOf ws))) whole)
+
+  pub read-bad : (n : ℕ) → n ≡ wanted w ws → isGood (scan n 0 ws) ≡ false → refusal (scan n 0 ws) ≡ readPart w ws
+  unfolding readPart
+  read-bad n size bad =
+      let same : scan n 0 ws ≡ scan (wanted w ws) 0 ws = ap (λ (k : ℕ). scan k 0 ws) size in
+      ap refusal same
+      ∙ sym (ap (λ (b : Bool). cond b (record { sample = sampleOf w (map byteOf ws); count = wanted w ws; answer = Good }) (refusal (scan (wanted w ws) 0 ws))) (ap isGood (sym same) ∙ bad))
+
+pub read-empty : (w : Widths) (ws : List ℕ) → length ws ≡ 0 → refusal Unfinished ≡ readPart w ws
+unfolding readPart scan
+read-empty w [] e = refl
+read-empty w (x ∷ ws) e = absurd (suc-ne-zero _ e)

@@ -1,0 +1,96 @@
+-- `samples::reader::fault_at` meets its contract: each return is the fault by the tests that led there. Assumes nothing.
+use borrow.Author.Needs.{needs}
+use Prim.Native.Nat.{ℕ, _+_}
+use native.Mathlib.Numerals.{add-one}
+use mathlib.Core.Path.{_≡_, refl, sym, ap, _∙_}
+use mathlib.Core.Bool.{Bool, true, false}
+use lib.Dec.{eqb}
+use Rattle.samples.proofs.ReadLaws.{fault-by, faultBy}
+use Rattle.samples.specs.Read.{faultAt}
+use Rattle.samples.proofs.reader.fault_at.Statement.{statement}
+use Rattle.samples.proofs.reader.fault_at.Tie as tie
+
+too-large-requires : tie.Need-too-large-requires
+too-large-requires c κs = search needs
+
+returns : tie.Need-returns
+returns c =
+    let a = c .before .before .args in
+    sym (fault-by (a .count) (a .place) (a .word) (sym (c .before .too-large .ensures) ∙ c .if1 .taken) refl refl refl refl)
+
+odd-ones-requires : tie.Need-odd-ones-requires
+odd-ones-requires c κs = search needs
+
+bad-header-requires : tie.Need-bad-header-requires
+bad-header-requires c κs = search needs
+
+returns-2 : tie.Need-returns-2
+returns-2 c =
+    let d = c .before .before in
+    let a = d .before .before .before .before .args in
+    sym
+    (fault-by (a .count) (a .place) (a .word)
+    (sym (d .before .before .before .too-large .ensures) ∙ d .before .before .if1 .left)
+    (sym (d .before .odd-ones .ensures) ∙ d .if2 .taken)
+    (sym (c .before .bad-header .ensures) ∙ c .if3 .taken)
+    refl
+    refl)
+
+add-last : tie.Need-add-last
+add-last c = search needs
+
+marked-requires : tie.Need-marked-requires
+marked-requires c κs = search needs
+
+-- after the tests of size, parity and header, the place and the mark decide
+by-mark : (c : tie.After-marked) {last mark : Bool} → eqb (c .before .before .before .before .before .before .before .args .place + 1) (c .before .before .before .before .before .before .before .args .count) ≡ last → c .marked .result ≡ mark → faultAt (c .before .before .before .before .before .before .before .args .count) (c .before .before .before .before .before .before .before .args .place) (c .before .before .before .before .before .before .before .args .word) ≡ faultBy false true false last mark
+by-mark c p q =
+    let h = c .before .before in
+    let d = h .before in
+    let a = d .before .before .before .before .args in
+    fault-by (a .count) (a .place) (a .word)
+    (sym (d .before .before .before .too-large .ensures) ∙ d .before .before .if1 .left)
+    (sym (d .before .odd-ones .ensures) ∙ d .if2 .taken)
+    (sym (h .bad-header .ensures) ∙ c .before .if3 .left)
+    (ap (λ (k : ℕ). eqb k (a .count)) (sym (add-one (a .place))) ∙ p)
+    (sym (c .marked .ensures) ∙ q)
+
+returns-3 : tie.Need-returns-3
+returns-3 c = sym (by-mark (c .before .before) (c .before .if4 .taken) (c .if5 .taken))
+
+returns-4 : tie.Need-returns-4
+returns-4 c = sym (by-mark (c .before .before) (c .before .if4 .taken) (c .if5 .left))
+
+returns-5 : tie.Need-returns-5
+returns-5 c = sym (by-mark (c .before .before) (c .before .if4 .left) (c .if6 .taken))
+
+returns-6 : tie.Need-returns-6
+returns-6 c = sym (by-mark (c .before .before) (c .before .if4 .left) (c .if6 .left))
+
+returns-7 : tie.Need-returns-7
+returns-7 c =
+    let a = c .before .before .before .before .args in
+    sym
+    (fault-by (a .count) (a .place) (a .word)
+    (sym (c .before .before .before .too-large .ensures) ∙ c .before .before .if1 .left)
+    (sym (c .before .odd-ones .ensures) ∙ c .if2 .left)
+    refl
+    refl
+    refl)
+
+pub fault-at-spec : {M : Type 1} → statement M
+fault-at-spec =
+    tie.close
+    (tie.spec
+    too-large-requires
+    returns
+    odd-ones-requires
+    bad-header-requires
+    returns-2
+    add-last
+    marked-requires
+    returns-3
+    returns-4
+    returns-5
+    returns-6
+    returns-7)

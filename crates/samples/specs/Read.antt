@@ -1,0 +1,85 @@
+-- Document 01, "Sample and words": the reader and its answers 20 to 24.
+use Prim.Native.Nat.{ℕ, zero, suc, _+_}
+use mathlib.Core.Bool.{Bool, true, false, cond, _&&_}
+use mathlib.Core.List.{List, [], _∷_, map}
+use lib.Dec.{leb, eqb}
+use lib.ListN.{length, take, drop, getD, replicate}
+use Rattle.words.specs.Bytes.{number}
+use Rattle.words.specs.Word.{tooLarge, oddOnes, marked, byteOf}
+use Rattle.samples.specs.Layout.{Widths, fieldWidths, counterWidths, resource, total, sampleLength}
+use Rattle.samples.specs.declared.sample.Sample.{Sample}
+use Rattle.samples.specs.declared.reader.Reading.{Reading}
+use Rattle.samples.specs.declared.reader.Answer.{Answer}
+use Rattle.samples.specs.declared.reader.Answer.the-variants.{Good, Unfinished, TooLarge, Parity, Header, Mark}
+
+-- "21 a word above 1023; 22 parity; 23 header bits 5..7; 24 end mark early or missing", in that order, of the word at a
+-- place of a sample of n words
+unfoldable pub faultAt : ℕ → ℕ → ℕ → Answer
+faultAt n place w =
+    cond (tooLarge w) TooLarge
+    (cond (oddOnes w)
+    (cond (eqb place 0 && leb 32 (byteOf w)) Header
+    (cond (eqb (suc place) n) (cond (marked w) Good Mark) (cond (marked w) Mark Good)))
+    Parity)
+
+abbrev pub isGood : Answer → Bool
+isGood Good = true
+isGood Unfinished = false
+isGood TooLarge = false
+isGood Parity = false
+isGood Header = false
+isGood Mark = false
+
+-- a fault decides, and a good word leaves it to what comes after
+abbrev pub orElse : Answer → Answer → Answer
+orElse a b = cond (isGood a) b a
+
+-- "The first bad word decides"; "20 the words so far are good but unfinished": the words from a place on, n wanted in all
+unfoldable pub scan : ℕ → ℕ → List ℕ → Answer
+scan n place [] = Unfinished
+scan n place (w ∷ ws) = orElse (faultAt n place w) (cond (eqb (suc place) n) Good (scan n (suc place) ws))
+
+-- the numbers of fields of these widths, from bytes low first
+unfoldable pub gather : List ℕ → List ℕ → List ℕ
+gather [] bs = []
+gather (n ∷ ns) bs = number (take n bs) ∷ gather ns (drop n bs)
+
+-- the sample that bytes give; "The reader gives a Trace sample zero counters"
+unfoldable pub sampleOf : Widths → List ℕ → Sample
+sampleOf w bs =
+    let f = gather (fieldWidths w) bs in
+    record {
+      user = getD f 3 0;
+      stamp = getD f 2 0;
+      source = getD f 1 0;
+      header = getD f 0 0;
+      counters = cond (resource (getD f 0 0)) (gather counterWidths (drop (total (fieldWidths w)) bs)) (replicate 16 0);
+    }
+
+abbrev pub zeroSample : Sample
+zeroSample = record { user = 0; stamp = 0; source = 0; header = 0; counters = replicate 16 0 }
+
+-- "With 20 to 24 the reader's sample is all zeros and its word count 0"
+abbrev pub refusal : Answer → Reading
+refusal a = record { sample = zeroSample; count = 0; answer = a }
+
+-- a sample where the words are good, else that refusal
+abbrev pub readAnswer : Answer → ℕ → Sample → Reading
+readAnswer a n s = cond (isGood a) (record { sample = s; count = n; answer = Good }) (refusal a)
+
+-- how many words the sample at the start of a part has: its first word holds the header
+abbrev pub wanted : Widths → List ℕ → ℕ
+wanted w ws = sampleLength w (resource (byteOf (getD ws 0 0)))
+
+-- "the first sample and how many words it took"
+unfoldable pub readPart : Widths → List ℕ → Reading
+readPart w ws = readAnswer (scan (wanted w ws) 0 ws) (wanted w ws) (sampleOf w (map byteOf ws))
+
+-- document 01's number for each answer
+abbrev pub answerNumber : Answer → ℕ
+answerNumber Good = 0
+answerNumber Unfinished = 20
+answerNumber TooLarge = 21
+answerNumber Parity = 22
+answerNumber Header = 23
+answerNumber Mark = 24
