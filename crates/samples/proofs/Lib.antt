@@ -1,6 +1,8 @@
 -- The laws that belong to no one function.
 pub mod Gather
 pub mod ReadLaws
+pub mod RoundTrip
 pub mod SampleLaws
 pub mod Spread
+pub mod Theorems
 pub mod WriteLaws

@@ -5,7 +5,7 @@ use native.Mathlib.Omega.{arith}
 use native.Mathlib.Numerals.{add-one}
 use mathlib.Core.Path.{_≡_, refl, sym, ap, ap₂, _∙_, subst}
 use mathlib.Core.Bool.{Bool, true, false}
-use mathlib.Core.List.{List, [], _∷_}
+use mathlib.Core.List.{List, [], _∷_, map}
 use lib.Arith.{lt-one}
 use lib.Pow.{shr-lt, field, mod-mod-pow}
 use lib.Count.{onesIn, ones, ones-step}
@@ -122,3 +122,9 @@ words-at [] i h = absurd (not-suc-le-zero h)
 words-at (b ∷ bs) zero h = ap (λ (e : Bool). wordOf e b) (last-length bs ∙ sym (eqb·suc-suc 0 (length bs)))
 words-at (b ∷ bs) (suc i) h =
     words-at bs i (le-of-suc-le-suc h) ∙ ap (λ (e : Bool). wordOf e (getD bs i 0)) (sym (eqb·suc-suc (suc i) (length bs)))
+
+-- the bytes are had back from their words
+pub words-bytes : (bs : List ℕ) → ((i : ℕ) → getD bs i 0 < 256) → map byteOf (wordsOf bs) ≡ bs
+unfolding wordsOf
+words-bytes [] h = refl
+words-bytes (b ∷ bs) h = ap₂ (λ (x : ℕ) (r : List ℕ). x ∷ r) (word-byte (isLast bs) b (h zero)) (words-bytes bs (λ i. h (suc i)))

@@ -1,0 +1,155 @@
+-- Demand 2 of samples and words, for every edition's widths: reading a written sample gives it back, and words that are
+-- accepted are what writing their sample gives. Assumes nothing.
+use Prim.Native.Nat.{ℕ, zero, suc, _+_, _-_, _≤_, _<_, _%_}
+use native.Mathlib.Nat.{zero-add, mod-eq-of-lt, lt-trans}
+use native.Mathlib.Omega.{arith}
+use mathlib.Core.Path.{_≡_, refl, sym, ap, ap₂, _∙_, subst}
+use mathlib.Core.Bool.{Bool, true, false, cond, _&&_, _||_, false≢true}
+use mathlib.Core.List.{List, [], _∷_, _++_, map, map-append}
+use lib.Dec.{eqb, leb, ltb, lit<}
+use lib.ListN.{length, getD, take, drop, replicate, length-map}
+use borrow.Author.Tests.{lt-leb, leb-false, lt-ltb}
+use Rattle.words.specs.Bytes.{lowBytes, number}
+use Rattle.words.specs.Word.{wordOf, wordsOf, isLast, byteOf}
+use Rattle.words.proofs.WordLaws.{words-bytes, word-byte}
+use Rattle.samples.specs.Layout.{Widths, fieldWidths, counterWidths, counterBytes, fieldBytes, sampleBytes, sampleWords, sampleLength, resource, spread, total}
+use Rattle.samples.specs.Write.{within, allZero, writable}
+use Rattle.samples.specs.Read.{gather, isGood, readAnswer, readPart, refusal, sampleOf, scan, wanted}
+use Rattle.samples.specs.declared.sample.Sample.{Sample}
+use Rattle.samples.specs.declared.reader.Reading.{Reading}
+use Rattle.samples.specs.declared.reader.Answer.{Answer}
+use Rattle.samples.specs.declared.reader.Answer.the-variants.{Good}
+use Rattle.samples.proofs.Gather.{within-gather}
+use Rattle.samples.proofs.ReadLaws.{header-byte, map-below, drop-below, read-good, scan-enough}
+use Rattle.samples.proofs.RoundTrip.{bytes-back, first-passed, header-fit, sample-back, scan-words, scan-written, sixteen-fit}
+use Rattle.samples.proofs.SampleLaws.{bytes-length}
+use Rattle.samples.proofs.Spread.{below-append, spread-below}
+
+-- a sample's bytes are bytes
+bytes-below : (w : Widths) (s : Sample) (i : ℕ) → getD (sampleBytes w s) i 0 < 256
+unfolding sampleBytes fieldBytes counterBytes
+bytes-below w s = below-append (spread (fieldWidths w) (s .header ∷ s .source ∷ s .stamp ∷ s .user ∷ [])) (cond (resource (s .header)) (spread counterWidths (s .counters)) []) (spread-below (fieldWidths w) (s .header ∷ s .source ∷ s .stamp ∷ s .user ∷ [])) (go (resource (s .header)))
+  where
+    go : (r : Bool) (i : ℕ) → getD (cond r (spread counterWidths (s .counters)) []) i 0 < 256
+    go true i = spread-below counterWidths (s .counters) i
+    go false i = omega arith
+
+-- the header's byte comes first
+rest-of : Widths → Sample → List ℕ
+rest-of w s = drop 1 (sampleBytes w s)
+
+header-first : (w : Widths) (s : Sample) → sampleBytes w s ≡ s .header % 256 ∷ rest-of w s
+unfolding sampleBytes fieldBytes spread lowBytes rest-of
+header-first w s = refl
+
+-- 1. Reading what the writer wrote, with any words after it, gives the sample and its count back.
+pub read-written : (w : Widths) (s : Sample) (rest : List ℕ) → writable w s ≡ true → readPart w (sampleWords w s ++ rest) ≡ record { sample = s; count = sampleLength w (resource (s .header)); answer = Good }
+unfolding sampleWords wordsOf
+read-written w s rest fit =
+    let n : ℕ = sampleLength w (resource (s .header)) in
+    let b : ℕ = s .header % 256 in
+    let bs : List ℕ = rest-of w s in
+    let small : s .header < 32 = header-fit w s fit in
+    let byte : b ≡ s .header = mod-eq-of-lt (lt-trans small (lit< tt)) in
+    let head : sampleBytes w s ≡ b ∷ bs = header-first w s in
+    let long : n ≡ suc (0 + length bs) = sym (bytes-length w s (sixteen-fit w s fit)) ∙ ap length head ∙ ap suc (sym (zero-add (length bs))) in
+    let below : (j : ℕ) → getD (b ∷ bs) j 0 < 256 = λ j. subst (λ (l : List ℕ). getD l j 0 < 256) head (bytes-below w s j) in
+    let first : byteOf (getD (wordsOf (sampleBytes w s) ++ rest) 0 0) ≡ s .header =
+    ap (λ (l : List ℕ). byteOf (getD (wordsOf l ++ rest) 0 0)) head ∙ word-byte (isLast bs) b (below 0) ∙ byte in
+    let good : isGood (scan n 0 (wordsOf (sampleBytes w s) ++ rest)) ≡ true =
+    ap (λ (l : List ℕ). isGood (scan n 0 (wordsOf l ++ rest))) head
+    ∙ ap isGood (scan-written n 0 b bs rest below long (lt-leb 32 b (subst (λ (x : ℕ). x < 32) (sym byte) small))) in
+    let given : s ≡ sampleOf w (map byteOf (wordsOf (sampleBytes w s) ++ rest)) =
+    sym
+    (ap (sampleOf w)
+    (map-append byteOf (wordsOf (sampleBytes w s)) rest
+    ∙ ap (λ (l : List ℕ). l ++ map byteOf rest) (words-bytes (sampleBytes w s) (bytes-below w s)))
+    ∙ sample-back w s fit (map byteOf rest)) in
+    sym
+    (read-good w (wordsOf (sampleBytes w s) ++ rest) n s
+    (ap (λ (h : ℕ). sampleLength w (resource h)) (sym first))
+    good
+    given)
+
+map-take : (n : ℕ) (ws : List ℕ) → map byteOf (take n ws) ≡ take n (map byteOf ws)
+map-take zero ws = refl
+map-take (suc n) [] = refl
+map-take (suc n) (w ∷ ws) = ap (λ (r : List ℕ). byteOf w ∷ r) (map-take n ws)
+
+-- the first word of a good scan has a header without bits 5 to 7
+header-passed : (n : ℕ) (ws : List ℕ) → isGood (scan n 0 ws) ≡ true → ltb (byteOf (getD ws 0 0)) 32 ≡ true
+unfolding scan
+header-passed n [] good = absurd (false≢true good)
+header-passed n (w ∷ ws) good = lt-ltb (byteOf w) 32 (leb-false 32 (byteOf w) (first-passed n 0 w ws good .2))
+
+-- a Trace sample's counters are zeros, and a Resource sample's what was read
+within-kind : (r : Bool) (cs : List ℕ) → within counterWidths cs ≡ true → within counterWidths (cond r cs (replicate 16 0)) ≡ true
+unfolding within
+within-kind true cs e = e
+within-kind false cs e = refl
+
+zeros-kind : (r : Bool) (cs : List ℕ) → (r || allZero (cond r cs (replicate 16 0))) ≡ true
+unfolding allZero
+zeros-kind true cs = refl
+zeros-kind false cs = refl
+
+-- what an accepting reader has seen: a good scan, and its whole answer
+module _ (w : Widths) (ws : List ℕ) (taken : isGood (readPart w ws .answer) ≡ true) where
+  accepted-scan : isGood (scan (wanted w ws) 0 ws) ≡ true
+  unfolding readPart
+  accepted-scan = go (isGood (scan (wanted w ws) 0 ws)) refl taken
+    where
+      go : (g : Bool) → isGood (scan (wanted w ws) 0 ws) ≡ g → isGood (cond g (record { sample = sampleOf w (map byteOf ws); count = wanted w ws; answer = Good }) (refusal (scan (wanted w ws) 0 ws)) .answer) ≡ true → isGood (scan (wanted w ws) 0 ws) ≡ true
+      go true e t = e
+      go false e t = t
+
+  accepted : readPart w ws ≡ record { sample = sampleOf w (map byteOf ws); count = wanted w ws; answer = Good }
+  accepted = sym (read-good w ws (wanted w ws) (sampleOf w (map byteOf ws)) refl accepted-scan refl)
+
+  -- the header read is the first word's byte, so the words wanted are the sample's
+  read-header : sampleOf w (map byteOf ws) .header ≡ byteOf (getD ws 0 0)
+  unfolding sampleOf gather
+  read-header = header-byte ws
+
+  enough : wanted w ws ≤ length ws
+  enough = rw zero-add at (scan-enough (wanted w ws) 0 ws accepted-scan)
+
+  size : sampleLength w (resource (sampleOf w (map byteOf ws) .header)) ≡ wanted w ws
+  size = ap (λ (h : ℕ). sampleLength w (resource h)) read-header
+
+  given-words : take (wanted w ws) ws ≡ sampleWords w (sampleOf w (map byteOf ws))
+  unfolding sampleWords
+  given-words =
+      let n : ℕ = wanted w ws in
+      let bs : List ℕ = map byteOf ws in
+      let one : suc (n - 1) ≡ n = omega arith in
+      let whole : wordsOf (map byteOf (take n ws)) ≡ take n ws =
+      subst (λ (m : ℕ). wordsOf (map byteOf (take m ws)) ≡ take m ws) one (scan-words n 0 (n - 1) ws (omega arith) accepted-scan) in
+      let long : sampleLength w (resource (sampleOf w bs .header)) ≤ length bs =
+      subst (λ (m : ℕ). m ≤ length bs) (sym size) (subst (λ (m : ℕ). n ≤ m) (sym (length-map ws byteOf)) enough) in
+      let bytes : sampleBytes w (sampleOf w bs) ≡ take n bs = bytes-back w bs (map-below ws) long ∙ ap (λ (m : ℕ). take m bs) size in
+      sym whole ∙ ap wordsOf (map-take n ws ∙ sym bytes)
+
+  given-writable : writable w (sampleOf w (map byteOf ws)) ≡ true
+  unfolding writable sampleOf gather
+  given-writable =
+      let bs : List ℕ = map byteOf ws in
+      let h : ℕ = number (take 1 bs) in
+      let cs : List ℕ = gather counterWidths (drop (total (fieldWidths w)) bs) in
+      let fields : within (fieldWidths w) (gather (fieldWidths w) bs) ≡ true = within-gather (fieldWidths w) bs (map-below ws) in
+      let counters : within counterWidths (cond (resource h) cs (replicate 16 0)) ≡ true =
+      within-kind (resource h) cs (within-gather counterWidths (drop (total (fieldWidths w)) bs) (drop-below (total (fieldWidths w)) bs (map-below ws))) in
+      let small : ltb h 32 ≡ true = ap (λ (x : ℕ). ltb x 32) (header-byte ws) ∙ header-passed (wanted w ws) ws accepted-scan in
+      let zeros : (resource h || allZero (cond (resource h) cs (replicate 16 0))) ≡ true = zeros-kind (resource h) cs in
+      λ i. fields i && (counters i && (small i && zeros i))
+
+  -- 2. Words that the reader accepts are exactly what writing their sample gives.
+  pub accepted-words : take (readPart w ws .count) ws ≡ sampleWords w (readPart w ws .sample)
+  accepted-words = subst (λ (r : Reading). take (r .count) ws ≡ sampleWords w (r .sample)) (sym accepted) given-words
+
+  pub accepted-count : (readPart w ws .count ≡ sampleLength w (resource (readPart w ws .sample .header))) × (readPart w ws .count ≤ length ws)
+  accepted-count = subst (λ (r : Reading). (r .count ≡ sampleLength w (resource (r .sample .header))) × (r .count ≤ length ws)) (sym accepted) (sym size, enough)
+
+  -- 3. Every accepted sample is one the writer takes (1 has that every sample the writer takes is accepted).
+  pub accepted-writable : writable w (readPart w ws .sample) ≡ true
+  accepted-writable = subst (λ (r : Reading). writable w (r .sample) ≡ true) (sym accepted) given-writable
