@@ -1,0 +1,61 @@
+-- Document 01, "Counters" and "Address map" 8, 11 and 12: which counters an event is due to.
+use Prim.Native.Nat.{ℕ, _+_, _-_, _*_, _/_, _%_, _^_}
+use mathlib.Core.Bool.{Bool, cond, not, _&&_}
+use lib.Bits.{bitAnd, bitOr}
+use Rattle.counters.specs.Bank.{bit, bumped, counting}
+use Rattle.counters.specs.declared.bank.Bank.{Bank}
+use Rattle.counters.specs.declared.switches.Switches.{Switches}
+use Rattle.counters.specs.declared.switches.Kind.{Kind}
+use Rattle.counters.specs.declared.switches.Kind.the-variants.{Slow, External, Software, Node}
+
+-- "00 slow clock, 01 external, 10 software, 11 node clock": high bit, low bit
+abbrev pub selects : Kind → Bool → Bool → Bool
+selects Slow high low = not high && not low
+selects External high low = not high && low
+selects Software high low = high && not low
+selects Node high low = high && low
+
+-- "An event counts if the counter is enabled and its field selects that kind"
+abbrev pub due : Kind → Switches → ℕ → Bool
+due k s i = bit (s .enabled) i && selects k (bit (s .high) i) (bit (s .low) i)
+
+-- the same for all sixteen at once, as a number whose bit i is for counter i
+abbrev pub dueMask : Kind → Switches → ℕ
+dueMask Slow s = bitAnd (s .enabled) (bitAnd (2 ^ 16 - 1 - s .high) (2 ^ 16 - 1 - s .low))
+dueMask External s = bitAnd (s .enabled) (bitAnd (2 ^ 16 - 1 - s .high) (s .low))
+dueMask Software s = bitAnd (s .enabled) (bitAnd (s .high) (2 ^ 16 - 1 - s .low))
+dueMask Node s = bitAnd (s .enabled) (bitAnd (s .high) (s .low))
+
+-- k events of a kind that ticks for all counters
+abbrev pub ticked : Kind → ℕ → Switches → Bank → Bank
+ticked kind k s b = counting (due kind s) k b
+
+-- "External events: a 16-bit mask, one event for each set bit"
+abbrev pub signalled : ℕ → Switches → Bank → Bank
+signalled mask s b = counting (λ i. bit mask i && due External s i) 1 b
+
+-- "software event for counter 0..15"
+abbrev pub fired : ℕ → Switches → Bank → Bank
+fired i s b = cond (due Software s i) (bumped i b) b
+
+-- "enable the counters of the set bits"; "only bits 0 to 15 act"
+abbrev pub enabling : ℕ → Switches → Switches
+enabling d s = record { enabled = bitOr (s .enabled) (d % 2 ^ 16); low = s .low; high = s .high; phase = s .phase }
+
+-- "disable the counters of the set bits"
+abbrev pub disabling : ℕ → Switches → Switches
+disabling d s = record { enabled = bitAnd (s .enabled) (2 ^ 16 - 1 - d % 2 ^ 16); low = s .low; high = s .high; phase = s .phase }
+
+-- "MUX SEL keeps bits 0 to 15 and 32 to 47; the others read zero"
+abbrev pub selecting : ℕ → Switches → Switches
+selecting d s = record { enabled = s .enabled; low = d % 2 ^ 16; high = d / 2 ^ 32 % 2 ^ 16; phase = s .phase }
+
+abbrev pub selection : Switches → ℕ
+selection s = s .low + 2 ^ 32 * s .high
+
+-- "A slow event falls on every tenth Timestamp tick since the last reset": the events in k ticks, and the phase after them
+abbrev pub slowEvents : ℕ → Switches → ℕ
+slowEvents k s = (s .phase + k) / 10
+
+abbrev pub ticking : ℕ → Switches → Switches
+ticking k s = record { enabled = s .enabled; low = s .low; high = s .high; phase = (s .phase + k) % 10 }
