@@ -1,0 +1,61 @@
+-- `queue::queue::Queue::next_word` meets its contract: the word at a place is its byte's, marked where it is the last.
+-- Assumes nothing.
+use borrow.Author.Needs.{needs}
+use native.Mathlib.Omega.{arith}
+use Prim.Native.Nat.{ℕ}
+use native.Mathlib.Numerals.{add-one}
+use mathlib.Core.Path.{_≡_, refl, sym, ap, ap₂, _∙_}
+use lib.Dec.{eqb}
+use lib.ListN.{length, List·getD-eq-default}
+use Rattle.words.specs.Word.{wordOf}
+use Rattle.samples.specs.Layout.{firstChip, sampleWords}
+use Rattle.samples.proofs.SampleLaws.{sample-length, sample-word}
+use Rattle.queue.specs.Queue.{firstHeld, heldSample}
+use Rattle.queue.proofs.QueueLaws.{held-sixteen}
+use Rattle.queue.proofs.queue.Queue.next_word.Statement.{statement}
+use Rattle.queue.proofs.queue.Queue.next_word.Tie as tie
+
+element-copy-out-first : tie.Need-element-copy-out-first
+element-copy-out-first c = search needs
+
+word-count-requires : tie.Need-word-count-requires
+word-count-requires c κs = search needs
+
+held-byte-requires : tie.Need-held-byte-requires
+held-byte-requires c κs = search needs
+
+add-word : tie.Need-add-word
+add-word c = search needs
+
+word-requires : tie.Need-word-requires
+word-requires c κs = search needs
+
+returns : tie.Need-returns
+returns c =
+    let a = c .before .before .before .before .before .args in
+    let h = firstHeld (a .t1) in
+    let sixteen : length (a .shadows) ≡ 16 = search needs in
+    let size = c .before .before .before .word-count .ensures in
+    c .word .ensures
+    ∙ ap₂ wordOf (ap₂ eqb (add-one (a .t1 .sent)) size) (c .before .held-byte .ensures)
+    ∙ sym (sample-word firstChip (heldSample (a .shadows) h) (held-sixteen (a .shadows) h sixteen) (a .t1 .sent) (omega arith))
+
+returns-2 : tie.Need-returns-2
+returns-2 c =
+    let a = c .before .before .before .args in
+    let h = firstHeld (a .t1) in
+    let sixteen : length (a .shadows) ≡ 16 = search needs in
+    let long = sample-length firstChip (heldSample (a .shadows) h) (held-sixteen (a .shadows) h sixteen) in
+    sym (List·getD-eq-default (sampleWords firstChip (heldSample (a .shadows) h)) 0 {n = a .t1 .sent} (rw long (omega arith)))
+
+pub next-word-spec : {M : Type 1} → statement M
+next-word-spec =
+    tie.close
+    (tie.spec
+    element-copy-out-first
+    word-count-requires
+    held-byte-requires
+    add-word
+    word-requires
+    returns
+    returns-2)

@@ -1,0 +1,87 @@
+-- `queue::queue::Queue::send_into` meets its contract: after i turns the buffer holds the first i words that single sends give.
+-- Assumes nothing.
+use borrow.Author.Needs.{needs}
+use Prim.Native.Nat.{ℕ, suc, _-_}
+use native.Mathlib.Numerals.{add-one}
+use mathlib.Core.Path.{_≡_, refl, ap, sym}
+use native.Mathlib.Omega.{arith}
+use lib.ListN.{length}
+use Rattle.queue.specs.Queue.{sendQueue, sendWords}
+use Rattle.queue.proofs.SendLaws.{Filled, filled-turn, filled-end, send-none}
+use Rattle.queue.proofs.queue.Queue.send_into.Statement.{statement}
+use Rattle.queue.proofs.queue.Queue.send_into.Tie as tie
+
+abbrev Inv-loop : tie.InvT-loop
+Inv-loop shadows out₀ queue₀ i₀ out queue i = Filled shadows queue₀ out₀ out queue i
+
+abbrev μ-loop : tie.MeasureT-loop
+μ-loop shadows out₀ queue₀ i₀ out queue i = length out₀ - i
+
+loop-holds : tie.Need-loop-holds Inv-loop μ-loop
+unfolding sendWords sendQueue
+loop-holds c = (search needs, refl, refl, refl, refl)
+
+same-length : tie.Need-same-length Inv-loop μ-loop
+same-length c = search needs
+
+returns : tie.Need-returns Inv-loop μ-loop
+returns c =
+    let a = c .before .before .before .before .before .args in
+    let l = c .before .before .before .loop in
+    filled-end (a .shadows) (a .self) (a .out .now) (l .out) (l .queue) (l .i) (l .inv) (send-none (length (a .out .now) - l .i) (a .shadows) (l .queue) (c .if1 .taken))
+
+next-word-requires : tie.Need-next-word-requires Inv-loop μ-loop
+next-word-requires c κs = search needs
+
+mul-out : tie.Need-mul-out Inv-loop μ-loop
+mul-out c = search needs
+
+slice-write-out : tie.Need-slice-write-out Inv-loop μ-loop
+slice-write-out c = search needs
+
+advanced-requires : tie.Need-advanced-requires Inv-loop μ-loop
+advanced-requires c κs = search needs
+
+add-i : tie.Need-add-i Inv-loop μ-loop
+add-i c = search needs
+
+loop-less : tie.Need-loop-less Inv-loop μ-loop
+loop-less c = search needs
+
+loop-again : tie.Need-loop-again Inv-loop μ-loop
+loop-again c =
+    let a = c .before .before .before .before .before .before .before .args in
+    let l = c .before .before .before .before .before .loop in
+    rw add-one
+    (filled-turn (a .shadows) (a .self) (a .out .now) (l .out) (l .queue) (l .i) (l .inv) (c .before .next-word .result) (c .advanced .result) (omega arith) (c .before .before .if1 .left) (c .before .next-word .ensures) (c .advanced .ensures))
+
+same-length-2 : tie.Need-same-length-2 Inv-loop μ-loop
+same-length-2 c = search needs
+
+returns-2 : tie.Need-returns-2 Inv-loop μ-loop
+unfolding sendWords sendQueue
+returns-2 c =
+    let a = c .before .before .before .args in
+    let l = c .before .loop in
+    let none : length (a .out .now) - l .i ≡ 0 = omega arith in
+    filled-end (a .shadows) (a .self) (a .out .now) (l .out) (l .queue) (l .i) (l .inv)
+    (ap (λ (n : ℕ). sendWords n (a .shadows) (l .queue)) none, ap (λ (n : ℕ). sendQueue n (l .queue)) none)
+
+pub send-into-spec : {M : Type 1} → statement M
+send-into-spec =
+    tie.close
+    (tie.spec
+    Inv-loop
+    μ-loop
+    loop-holds
+    same-length
+    returns
+    next-word-requires
+    mul-out
+    slice-write-out
+    advanced-requires
+    add-i
+    loop-less
+    loop-again
+    same-length-2
+    returns-2)

@@ -1,0 +1,90 @@
+-- Document 01, "Triggers and the queue": what is held, and sending it.
+use Prim.Native.Nat.{ℕ, zero, suc, _+_, _-_}
+use mathlib.Core.Bool.{Bool, true, false, cond, _&&_, _||_}
+use mathlib.Core.List.{List, [], _∷_, _++_}
+use lib.Dec.{leb, ltb, eqb}
+use lib.ListN.{length, take, drop, getD, set, replicate}
+use Rattle.samples.specs.Layout.{firstChip, resource, sampleLength, sampleWords}
+use Rattle.samples.specs.declared.sample.Sample.{Sample}
+use Rattle.queue.specs.declared.queue.Held.{Held}
+use Rattle.queue.specs.declared.queue.Queue.{Queue}
+use Rattle.queue.specs.declared.queue.Sent.{Sent}
+use Rattle.queue.specs.declared.queue.SentMany.{SentMany}
+
+abbrev pub zeroHeld : Held
+zeroHeld = record { user = 0; stamp = 0; source = 0; header = 0 }
+
+abbrev pub emptyQueue : Queue
+emptyQueue = record { places = replicate 8 zeroHeld; held = 0; sent = 0 }
+
+-- the sample that a place holds: a Resource sample's counters are the shadows' copy
+abbrev pub heldSample : List ℕ → Held → Sample
+heldSample shadows h =
+    record {
+      user = h .user;
+      stamp = h .stamp;
+      source = h .source;
+      header = h .header;
+      counters = cond (resource (h .header)) shadows (replicate 16 0);
+    }
+
+-- "The queue holds 8 samples"
+abbrev pub full : Queue → Bool
+full q = leb 8 (q .held)
+
+-- "The shadows are busy while a Resource sample is held"
+unfoldable pub anyResource : List Held → Bool
+anyResource [] = false
+anyResource (h ∷ hs) = resource (h .header) || anyResource hs
+
+abbrev pub busy : Queue → Bool
+busy q = anyResource (take (q .held) (q .places))
+
+-- the sample that is being sent, and how many words it has
+abbrev pub firstHeld : Queue → Held
+firstHeld q = getD (q .places) 0 zeroHeld
+
+abbrev pub firstCount : Queue → ℕ
+firstCount q = sampleLength firstChip (resource (firstHeld q .header))
+
+-- the counts that operations leave: "record outside its bounds (queue counts)"
+abbrev pub insideQueue : Queue → Bool
+insideQueue q = leb (q .held) 8 && cond (eqb (q .held) 0) (eqb (q .sent) 0) (ltb (q .sent) (firstCount q))
+
+-- one sample more, where there is a place
+abbrev pub pushed : Held → Queue → Queue
+pushed h q = cond (ltb (q .held) 8) (record { places = set (q .places) (q .held) h; held = q .held + 1; sent = q .sent }) q
+
+-- the word to send: the next one of the first sample
+abbrev pub nextWord : List ℕ → Queue → ℕ
+nextWord shadows q = getD (sampleWords firstChip (heldSample shadows (firstHeld q))) (q .sent) 0
+
+-- "A sample is held .. until its last word is sent": then the others move down and the last place is empty
+abbrev pub shifted : Queue → Queue
+shifted q = record { places = drop 1 (q .places) ++ (zeroHeld ∷ []); held = q .held - 1; sent = 0 }
+
+abbrev pub advanced : Queue → Queue
+advanced q = cond (ltb (q .sent + 1) (firstCount q)) (record { places = q .places; held = q .held; sent = q .sent + 1 }) (shifted q)
+
+abbrev pub sendOne : List ℕ → Queue → Sent
+sendOne shadows q = record { queue = advanced q; word = nextWord shadows q }
+
+-- the words that single sends give, one after another, at most n and until nothing is held
+unfoldable pub sendWords : ℕ → List ℕ → Queue → List ℕ
+sendWords zero shadows q = []
+sendWords (suc n) shadows q = cond (eqb (q .held) 0) [] (nextWord shadows q ∷ sendWords n shadows (advanced q))
+
+-- and the queue after them
+unfoldable pub sendQueue : ℕ → Queue → Queue
+sendQueue zero q = q
+sendQueue (suc n) q = cond (eqb (q .held) 0) q (sendQueue n (advanced q))
+
+-- "as many words as it has places or as are left; .. it returns how many"
+unfoldable pub sendMany : ℕ → List ℕ → Queue → SentMany
+sendMany room shadows q = record { queue = sendQueue room q; count = length (sendWords room shadows q) }
+
+-- "the rest of the buffer untouched"
+unfoldable pub sendBuffer : List ℕ → Queue → List ℕ → List ℕ
+sendBuffer shadows q out =
+    let ws = sendWords (length out) shadows q in
+    ws ++ drop (length ws) out

@@ -1,0 +1,236 @@
+// The held samples, and sending them word by word. A Resource sample's counters stand in the shadows, which it keeps busy.
+use samples::sample::counter_byte;
+use samples::sample::field_byte;
+use samples::sample::is_resource;
+use samples::sample::word_count;
+use words::word::word;
+ghost use mathlib.Core.Path.{_≡_};
+ghost use Prim.Native.Nat.{_-_, _<_, min};
+ghost use lib.ListN.{getD, length, take};
+ghost use Rattle.queue.specs.Queue.{advanced, anyResource, busy, emptyQueue, firstCount, full, heldSample, insideQueue, nextWord, pushed, sendBuffer, sendMany, sendOne, shifted, zeroHeld};
+ghost use Rattle.samples.specs.Layout.{firstChip, resource, sampleBytes, sampleLength};
+
+// A held sample, but for a Resource sample's counters: no padding (24 bytes).
+pub struct Held {
+    pub user: u64,
+    pub stamp: u64,
+    pub source: u32,
+    pub header: u32,
+}
+
+// The places, how many hold a sample, and how many words of the first one are sent.
+pub struct Queue {
+    pub places: [Held; 8],
+    pub held: usize,
+    pub sent: usize,
+}
+
+// A queue after one word was sent, and the word.
+pub struct Sent {
+    pub queue: Queue,
+    pub word: u64,
+}
+
+// A queue after some words were sent into a buffer, and how many.
+pub struct SentMany {
+    pub queue: Queue,
+    pub count: u64,
+}
+
+fn no_sample() -> Held
+    ensures { λ r. ⌜ r ≡ zeroHeld ⌝ }
+{
+    Held {
+        user: 0,
+        stamp: 0,
+        source: 0,
+        header: 0,
+    }
+}
+
+impl Queue {
+    pub fn empty() -> Queue
+        ensures { λ r. ⌜ r ≡ emptyQueue ⌝ }
+    {
+        let none = no_sample();
+        Queue {
+            places: [none; 8],
+            held: 0,
+            sent: 0,
+        }
+    }
+
+    // Whether eight samples are held.
+    pub fn full(self) -> bool
+        ensures { λ r. ⌜ r ≡ full self ⌝ }
+    {
+        8 <= self.held
+    }
+
+    // Whether a Resource sample is held, which keeps the shadows.
+    pub fn busy(self) -> bool
+        ensures { λ r. ⌜ r ≡ busy self ⌝ }
+    {
+        let places = self.places;
+        let held = self.held;
+        any_resource(places, held)
+    }
+
+    // Whether the counts are ones that an operation can leave: at most eight held, and fewer words of the first sent than it has.
+    pub fn inside(self) -> bool
+        ensures { λ r. ⌜ r ≡ insideQueue self ⌝ }
+    {
+        if 8 < self.held {
+            return false;
+        }
+        if self.held == 0 {
+            return self.sent == 0;
+        }
+        self.sent < self.first_count()
+    }
+
+    // How many words the first sample has.
+    pub fn first_count(self) -> usize
+        ensures { λ r. ⌜ r ≡ firstCount self ⌝ }
+    {
+        let first = self.places[0];
+        word_count(first.header)
+    }
+
+    // The queue with one more sample, if there is a place.
+    pub fn pushed(mut self, sample: Held) -> Queue
+        ensures { λ r. ⌜ r ≡ pushed sample self ⌝ }
+    {
+        let held = self.held;
+        if held < 8 {
+            self.places[held] = sample;
+            self.held = held + 1;
+        }
+        self
+    }
+
+    // The next word, and the queue after it: with a sample's last word its place is free.
+    pub fn send(self, shadows: [u32; 16]) -> Sent
+        ensures { λ r. ⌜ r ≡ sendOne shadows self ⌝ }
+    {
+        let word = self.next_word(shadows);
+        let queue = self.advanced();
+        Sent {
+            queue,
+            word: word as u64,
+        }
+    }
+}
+
+impl Queue {
+    // As many words as the buffer has places or as are left; the rest of the buffer stays.
+    pub fn send_into(self, shadows: [u32; 16], out: &mut [u16]) -> SentMany
+        ensures { λ r. ⌜ r ≡ sendMany (length (now (out .entry))) shadows self ⌝ }
+        ensures { λ r. ⌜ now (out .exit) ≡ sendBuffer shadows self (now (out .entry)) ⌝ }
+    {
+        let mut queue = self;
+        let mut i = 0;
+        while i < out.len() {
+            if queue.held == 0 {
+                return SentMany {
+                    queue,
+                    count: i as u64,
+                };
+            }
+            out[i] = queue.next_word(shadows);
+            let next = queue.advanced();
+            queue = next;
+            i += 1;
+        }
+        SentMany {
+            queue,
+            count: i as u64,
+        }
+    }
+
+    // The word that is next, 0 past the first sample's end.
+    fn next_word(self, shadows: [u32; 16]) -> u16
+        ensures { λ r. ⌜ r ≡ nextWord shadows self ⌝ }
+    {
+        let first = self.places[0];
+        let count = word_count(first.header);
+        let sent = self.sent;
+        if sent < count {
+            return word(held_byte(first, shadows, sent), sent + 1 == count);
+        }
+        0
+    }
+
+    // The queue after a word was sent.
+    fn advanced(mut self) -> Queue
+        ensures { λ r. ⌜ r ≡ advanced self ⌝ }
+    {
+        let count = self.first_count();
+        let sent = self.sent;
+        if sent < count - 1 {
+            self.sent = sent + 1;
+            return self;
+        }
+        self.shifted()
+    }
+
+    // The others move down, and the last place is empty.
+    fn shifted(self) -> Queue
+        ensures { λ r. ⌜ r ≡ shifted self ⌝ }
+    {
+        let p = self.places;
+        let a = p[1];
+        let b = p[2];
+        let c = p[3];
+        let d = p[4];
+        let e = p[5];
+        let f = p[6];
+        let g = p[7];
+        let none = no_sample();
+        let places = [a, b, c, d, e, f, g, none];
+        Queue {
+            places,
+            held: one_less(self.held),
+            sent: 0,
+        }
+    }
+}
+
+fn one_less(n: usize) -> usize
+    ensures { λ r. ⌜ r ≡ n - 1 ⌝ }
+{
+    if n == 0 { 0 } else { n - 1 }
+}
+
+fn least(a: usize, b: usize) -> usize
+    ensures { λ r. ⌜ r ≡ min a b ⌝ }
+{
+    if a < b { a } else { b }
+}
+
+// The byte at a place of a held sample.
+fn held_byte(h: Held, shadows: [u32; 16], place: usize) -> u8
+    requires { ⌜ place < sampleLength firstChip (resource (h .header)) ⌝ }
+    ensures { λ r. ⌜ r ≡ getD (sampleBytes firstChip (heldSample shadows h)) place 0 ⌝ }
+{
+    if place < 16 {
+        return field_byte(h.header, h.source, h.stamp, h.user, place);
+    }
+    counter_byte(shadows, place - 16)
+}
+
+// Whether one of the first `held` places has a Resource sample.
+fn any_resource(places: [Held; 8], held: usize) -> bool
+    ensures { λ r. ⌜ r ≡ anyResource (take held places) ⌝ }
+{
+    let end = least(held, 8);
+    let mut i = 0;
+    while i < end {
+        let h = places[i];
+        if is_resource(h.header) {
+            return true;
+        }
+        i += 1;
+    }
+    false
+}
