@@ -267,8 +267,8 @@ class Maker:
         elif choice < 5:
             # A good record but for its fourth byte; resets and sends are among them.
             kind = (number >> 3) % 7
-            self.out += record(kind, KNOWN[(number >> 6) % len(KNOWN)], LINES[number >> 12 & 63], 1 << (number >> 20 & 7),
-                               data >> 48)
+            fourth = 1 << (number >> 20 & 7)
+            self.out += record(kind, KNOWN[(number >> 6) % len(KNOWN)], LINES[number >> 12 & 63], fourth, data >> 48)
         elif choice < 7:
             # Too many ticks: just above, one high bit, or anything above.
             kind = NODE if number & 8 else TICKS

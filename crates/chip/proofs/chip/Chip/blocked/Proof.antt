@@ -1,0 +1,21 @@
+-- `chip::chip::Chip::blocked` meets its contract: the test decides. Assumes nothing.
+use borrow.Author.Needs.{needs}
+use mathlib.Core.Path.{_≡_, refl, sym, ap, ap₂, _∙_}
+use mathlib.Core.Bool.{Bool, false, cond}
+use Rattle.queue.specs.Queue.{busy}
+use Rattle.chip.proofs.chip.Chip.blocked.Statement.{statement}
+use Rattle.chip.proofs.chip.Chip.blocked.Tie as tie
+
+busy-requires : tie.Need-busy-requires
+busy-requires c κs = search needs
+
+returns : tie.Need-returns
+returns c =
+    let a = c .before .before .args in
+    c .busy .ensures ∙ ap (λ (b : Bool). cond b (busy (a .self .queue)) false) (sym (c .before .if1 .taken))
+
+returns-2 : tie.Need-returns-2
+returns-2 c = search needs
+
+pub blocked-spec : {M : Type 1} → statement M
+blocked-spec = tie.close (tie.spec busy-requires returns returns-2)

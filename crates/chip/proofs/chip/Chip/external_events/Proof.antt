@@ -1,0 +1,38 @@
+-- `chip::chip::Chip::external_events` meets its contract: inside the bounds the events count, else 15. Assumes nothing.
+use borrow.Author.Needs.{needs}
+use mathlib.Core.Path.{_≡_, refl, sym, ap, ap₂, _∙_}
+use Rattle.chip.specs.Chip.{done, externalEvents, withBank}
+use Rattle.chip.proofs.ChipLaws.{guard-in, guard-out}
+use Rattle.chip.proofs.chip.Chip.external_events.Statement.{statement}
+use Rattle.chip.proofs.chip.Chip.external_events.Tie as tie
+
+inside-requires : tie.Need-inside-requires
+inside-requires c κs = search needs
+
+signalled-requires : tie.Need-signalled-requires
+signalled-requires c κs = search needs
+
+done-requires : tie.Need-done-requires
+done-requires c κs = search needs
+
+returns : tie.Need-returns
+unfolding externalEvents
+returns c =
+    let s = c .before .before .before .before .args .self in
+    c .done .ensures
+    ∙ ap (λ b. done 0 (withBank b s)) (c .before .signalled .ensures)
+    ∙ guard-in s _ (sym (c .before .before .before .inside .ensures) ∙ c .before .before .if1 .taken)
+
+refuse-requires : tie.Need-refuse-requires
+refuse-requires c κs = search needs
+
+returns-2 : tie.Need-returns-2
+unfolding externalEvents
+returns-2 c =
+    let s = c .before .before .before .args .self in
+    c .refuse .ensures ∙ guard-out s _ (sym (c .before .before .inside .ensures) ∙ c .before .if1 .left)
+
+pub external-events-spec : {M : Type 1} → statement M
+external-events-spec =
+    tie.close
+    (tie.spec inside-requires signalled-requires done-requires returns refuse-requires returns-2)

@@ -1,0 +1,18 @@
+-- `chip::chip::Chip::hardware_reset` meets its contract: a fresh chip. Assumes nothing.
+use borrow.Author.Needs.{needs}
+use mathlib.Core.Path.{_≡_, refl, sym, ap, ap₂, _∙_}
+use Rattle.chip.specs.Chip.{done}
+use Rattle.chip.proofs.chip.Chip.hardware_reset.Statement.{statement}
+use Rattle.chip.proofs.chip.Chip.hardware_reset.Tie as tie
+
+fresh-requires : tie.Need-fresh-requires
+fresh-requires c κs = search needs
+
+done-requires : tie.Need-done-requires
+done-requires c κs = search needs
+
+returns : tie.Need-returns
+returns c = c .done .ensures ∙ ap (done 0) (c .before .fresh .ensures)
+
+pub hardware-reset-spec : {M : Type 1} → statement M
+hardware-reset-spec = tie.close (tie.spec fresh-requires done-requires returns)

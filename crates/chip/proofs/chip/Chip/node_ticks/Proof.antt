@@ -1,0 +1,38 @@
+-- `chip::chip::Chip::node_ticks` meets its contract: inside the bounds the ticks count, else 15. Assumes nothing.
+use borrow.Author.Needs.{needs}
+use mathlib.Core.Path.{_≡_, refl, sym, ap, ap₂, _∙_}
+use Rattle.chip.specs.Chip.{done, nodeTicks, withBank}
+use Rattle.chip.proofs.ChipLaws.{guard-in, guard-out}
+use Rattle.chip.proofs.chip.Chip.node_ticks.Statement.{statement}
+use Rattle.chip.proofs.chip.Chip.node_ticks.Tie as tie
+
+inside-requires : tie.Need-inside-requires
+inside-requires c κs = search needs
+
+ticked-requires : tie.Need-ticked-requires
+ticked-requires c κs = search needs
+
+done-requires : tie.Need-done-requires
+done-requires c κs = search needs
+
+returns : tie.Need-returns
+unfolding nodeTicks
+returns c =
+    let s = c .before .before .before .before .args .self in
+    c .done .ensures
+    ∙ ap (λ b. done 0 (withBank b s)) (c .before .ticked .ensures)
+    ∙ guard-in s _ (sym (c .before .before .before .inside .ensures) ∙ c .before .before .if1 .taken)
+
+refuse-requires : tie.Need-refuse-requires
+refuse-requires c κs = search needs
+
+returns-2 : tie.Need-returns-2
+unfolding nodeTicks
+returns-2 c =
+    let s = c .before .before .before .args .self in
+    c .refuse .ensures ∙ guard-out s _ (sym (c .before .before .inside .ensures) ∙ c .before .if1 .left)
+
+pub node-ticks-spec : {M : Type 1} → statement M
+node-ticks-spec =
+    tie.close
+    (tie.spec inside-requires ticked-requires done-requires returns refuse-requires returns-2)

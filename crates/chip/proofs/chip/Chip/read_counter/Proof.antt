@@ -1,0 +1,85 @@
+-- `chip::chip::Chip::read_counter` meets its contract: busy shadows give a wait or no data. Assumes nothing.
+use borrow.Author.Needs.{needs}
+use mathlib.Core.Path.{_≡_, refl, sym, ap, ap₂, _∙_}
+use Prim.Native.Nat.{ℕ, _^_}
+use mathlib.Core.Bool.{Bool, true, false, cond}
+use lib.ListN.{getD}
+use Rattle.counters.specs.Bank.{copied}
+use Rattle.counters.specs.declared.bank.Bank.{Bank}
+use Rattle.queue.specs.Queue.{busy}
+use Rattle.chip.specs.Chip.{done, readCounter, refuse, withBank, withControl}
+use Rattle.chip.specs.Control.{waited}
+use Rattle.chip.specs.declared.chip.Answer.{Answer}
+use Rattle.chip.specs.declared.chip.Chip.{Chip}
+use Rattle.chip.specs.declared.control.Control.{Control}
+use Rattle.chip.specs.declared.reply.Reply.the-variants.{Busy, Wait}
+use Rattle.chip.proofs.chip.Chip.read_counter.Statement.{statement}
+use Rattle.chip.proofs.chip.Chip.read_counter.Tie as tie
+
+-- the answer by what the two tests say
+by-tests : (i : ℕ) (s : Chip) {held wait : Bool} → busy (s .queue) ≡ held → s .control .readwait ≡ wait → readCounter i s ≡ cond held (cond wait (refuse Wait (withControl (waited (s .control)) s)) (record { chip = s; value = 2 ^ 63; reply = Busy })) (done (getD (s .bank .values) i 0) (withBank (copied (s .bank)) s))
+unfolding readCounter
+by-tests i s p q = λ k. cond (p k) (cond (q k) (refuse Wait (withControl (waited (s .control)) s)) (record { chip = s; value = 2 ^ 63; reply = Busy })) (done (getD (s .bank .values) i 0) (withBank (copied (s .bank)) s))
+
+busy-requires : tie.Need-busy-requires
+busy-requires c κs = search needs
+
+waited-requires : tie.Need-waited-requires
+waited-requires c κs = search needs
+
+controlled-requires : tie.Need-controlled-requires
+controlled-requires c κs = search needs
+
+refuse-requires : tie.Need-refuse-requires
+refuse-requires c κs = search needs
+
+returns : tie.Need-returns
+returns c =
+    let a = c .before .before .before .before .before .before .args in
+    c .refuse .ensures
+    ∙ ap (refuse Wait) (c .before .controlled .ensures ∙ ap (λ (k : Control). withControl k (a .self)) (c .before .before .waited .ensures))
+    ∙ sym (by-tests (a .index) (a .self) (sym (c .before .before .before .before .before .busy .ensures) ∙ c .before .before .before .before .if1 .taken) (c .before .before .before .if2 .taken))
+
+returns-2 : tie.Need-returns-2
+returns-2 c =
+    let a = c .before .before .before .args in
+    sym (by-tests (a .index) (a .self) (sym (c .before .before .busy .ensures) ∙ c .before .if1 .taken) (c .if2 .left))
+
+copied-requires : tie.Need-copied-requires
+copied-requires c κs = search needs
+
+banked-requires : tie.Need-banked-requires
+banked-requires c κs = search needs
+
+value-requires : tie.Need-value-requires
+value-requires c κs = search needs
+
+cast-done : tie.Need-cast-done
+cast-done c = search needs
+
+done-requires : tie.Need-done-requires
+done-requires c κs = search needs
+
+returns-3 : tie.Need-returns-3
+returns-3 c =
+    let a = c .before .before .before .before .before .before .args in
+    c .done .ensures
+    ∙ ap₂ (λ (v : ℕ) (k : Chip). done v k) (c .before .value .ensures) (c .before .before .banked .ensures ∙ ap (λ (b : Bank). withBank b (a .self)) (c .before .before .before .copied .ensures))
+    ∙ sym (by-tests (a .index) (a .self) (sym (c .before .before .before .before .before .busy .ensures) ∙ c .before .before .before .before .if1 .left) refl)
+
+pub read-counter-spec : {M : Type 1} → statement M
+read-counter-spec =
+    tie.close
+    (tie.spec
+    busy-requires
+    waited-requires
+    controlled-requires
+    refuse-requires
+    returns
+    returns-2
+    copied-requires
+    banked-requires
+    value-requires
+    cast-done
+    done-requires
+    returns-3)

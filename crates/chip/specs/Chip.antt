@@ -1,0 +1,235 @@
+-- Document 01, "The chip's operations": the record, and what each operation answers and leaves.
+use Prim.Native.Nat.{ℕ, _+_, _*_, _%_, _^_}
+use mathlib.Core.Bool.{Bool, true, false, cond, not, _&&_, _||_}
+use mathlib.Core.List.{List}
+use lib.Count.{onesIn, trailingZeros}
+use lib.Dec.{ltb, eqb}
+use lib.ListN.{getD, set, replicate}
+use Rattle.counters.specs.Bank.{bit, cleared, copied}
+use Rattle.counters.specs.Due.{disabling, enabling, fired, selecting, selection, signalled, slowEvents, ticked, ticking}
+use Rattle.counters.specs.declared.bank.Bank.{Bank}
+use Rattle.counters.specs.declared.switches.Switches.{Switches}
+use Rattle.counters.specs.declared.switches.Kind.the-variants.{Slow, Node}
+use Rattle.queue.specs.Queue.{advanced, busy, emptyQueue, full, insideQueue, nextWord, pushed, sendBuffer, sendMany}
+use Rattle.queue.specs.declared.queue.Held.{Held}
+use Rattle.queue.specs.declared.queue.Queue.{Queue}
+use Rattle.chip.specs.Control.{configured, csrOf, filtering, noControl, one, overran, taken, unlost, unwaited, waited}
+use Rattle.chip.specs.Fate.{Fate, fate, isOff, isFiltered, isLost, isTold, isTaken}
+use Rattle.chip.specs.Place.{placeOf}
+use Rattle.chip.specs.declared.chip.Answer.{Answer}
+use Rattle.chip.specs.declared.chip.Chip.{Chip}
+use Rattle.chip.specs.declared.control.Control.{Control}
+use Rattle.chip.specs.declared.place.Place.{Place}
+use Rattle.chip.specs.declared.place.Place.the-variants.{Beyond, Nowhere, Reset, Csr, Timestamp, Filter, Waits, Overruns, Mux, Clear, Enable, Disable, Source, Counter, Trace, Resource}
+use Rattle.chip.specs.declared.reply.Reply.{Reply}
+use Rattle.chip.specs.declared.reply.Reply.the-variants.{Done, TooHigh, Nothing, Forbidden, Lines, NoWord, Off, Filtered, Lost, Wait, Busy, Outside}
+
+-- a chip with another part
+abbrev pub withStamp : ℕ → Chip → Chip
+withStamp n c = record { stamp = n; queue = c .queue; bank = c .bank; sources = c .sources; control = c .control; switches = c .switches }
+
+abbrev pub withQueue : Queue → Chip → Chip
+withQueue q c = record { stamp = c .stamp; queue = q; bank = c .bank; sources = c .sources; control = c .control; switches = c .switches }
+
+abbrev pub withBank : Bank → Chip → Chip
+withBank b c = record { stamp = c .stamp; queue = c .queue; bank = b; sources = c .sources; control = c .control; switches = c .switches }
+
+abbrev pub withSources : List ℕ → Chip → Chip
+withSources l c = record { stamp = c .stamp; queue = c .queue; bank = c .bank; sources = l; control = c .control; switches = c .switches }
+
+abbrev pub withControl : Control → Chip → Chip
+withControl k c = record { stamp = c .stamp; queue = c .queue; bank = c .bank; sources = c .sources; control = k; switches = c .switches }
+
+abbrev pub withSwitches : Switches → Chip → Chip
+withSwitches s c = record { stamp = c .stamp; queue = c .queue; bank = c .bank; sources = c .sources; control = c .control; switches = s }
+
+-- "every part becomes zero, Timestamp included. That is a fresh chip"
+abbrev pub fresh : Chip
+fresh =
+    record {
+      stamp = 0;
+      queue = emptyQueue;
+      bank = record { values = replicate 16 0; shadows = replicate 16 0 };
+      sources = replicate 8 0;
+      control = noControl;
+      switches = record { enabled = 0; low = 0; high = 0; phase = 0 };
+    }
+
+-- "Everything becomes as after a hardware reset except the Timestamp"
+abbrev pub softReset : Chip → Chip
+softReset c = withStamp (c .stamp) fresh
+
+-- an answer that the operation is done, and one that changes nothing and has the value 0
+abbrev pub done : ℕ → Chip → Answer
+done value c = record { chip = c; value = value; reply = Done }
+
+abbrev pub refuse : Reply → Chip → Answer
+refuse r c = record { chip = c; value = 0; reply = r }
+
+-- the bounds of reply 15: "queue counts, .. phase, field widths"
+abbrev pub inside : Chip → Bool
+inside c = insideQueue (c .queue) && (ltb (c .switches .phase) 10 && ltb (c .stamp) (2 ^ 56))
+
+-- 15 is tried first, at "any operation but hardware reset"
+abbrev pub guarded : Chip → Answer → Answer
+guarded c a = cond (inside c) a (refuse Outside c)
+
+-- ---- triggers
+
+-- "exactly one active processor line", and its number
+abbrev pub oneLine : ℕ → Bool
+oneLine lines = eqb (onesIn 8 lines) 1
+
+abbrev pub lineOf : ℕ → ℕ
+lineOf lines = trailingZeros 8 lines
+
+-- "a Resource trigger and a Resource sample is held"
+abbrev pub blocked : Bool → Queue → Bool
+blocked resource q = cond resource (busy q) false
+
+-- "A trigger lacks room if 8 are held, or if it is a Resource trigger and a Resource sample is held"
+abbrev pub lacksRoom : Bool → Queue → Bool
+lacksRoom resource q = full q || blocked resource q
+
+-- "bits 0..2 the active line's number, bit 3 set for a Resource sample, bit 4 the lost mark before this trigger"
+abbrev pub headerOf : ℕ → Bool → Bool → ℕ
+headerOf line resource lost = line + 8 * one resource + 16 * one lost
+
+-- "A taken sample fixes its fields at the trigger": "Timestamp low 40 bits", "user data low 48 bits"; "The Source Address is that
+-- line's register"
+abbrev pub sampleNow : Bool → ℕ → ℕ → Chip → Held
+sampleNow resource line word c =
+    record {
+      user = word % 2 ^ 48;
+      stamp = c .stamp % 2 ^ 40;
+      source = getD (c .sources) line 0;
+      header = headerOf line resource (c .control .lost);
+    }
+
+-- "a Resource trigger also copies all counters to the shadows. Then the lost mark is cleared"
+abbrev pub takeSample : Bool → ℕ → ℕ → Chip → Chip
+takeSample resource line word c =
+    record {
+      stamp = c .stamp;
+      queue = pushed (sampleNow resource line word c) (c .queue);
+      bank = cond resource (copied (c .bank)) (c .bank);
+      sources = c .sources;
+      control = taken (c .control);
+      switches = c .switches;
+    }
+
+unfoldable pub triggerBy : Fate → Bool → ℕ → ℕ → Chip → Answer
+triggerBy isOff resource line word c = refuse Off c
+triggerBy isFiltered resource line word c = refuse Filtered c
+triggerBy isLost resource line word c =
+    refuse Lost (withControl (overran (full (c .queue)) (blocked resource (c .queue)) (c .control)) c)
+triggerBy isTold resource line word c = refuse Wait (withControl (waited (c .control)) c)
+triggerBy isTaken resource line word c = done 0 (takeSample resource line word c)
+
+abbrev pub fateOf : Bool → ℕ → Chip → Fate
+fateOf resource level c =
+    fate (c .control .sampling) (bit (c .control .filter) level) (lacksRoom resource (c .queue)) (c .control .writewait)
+
+-- "4 trigger without exactly one active processor line", before 6, 7, 8 or 10
+unfoldable pub trigger : Bool → ℕ → ℕ → ℕ → Chip → Answer
+trigger resource level word lines c =
+    cond (oneLine lines) (triggerBy (fateOf resource level c) resource (lineOf lines) word c) (refuse Lines c)
+
+-- ---- writes and reads, by what stands at the address
+
+unfoldable pub writeAt : Place → ℕ → ℕ → Chip → Answer
+writeAt Beyond word lines c = refuse TooHigh c
+writeAt Nowhere word lines c = refuse Nothing c
+writeAt Reset word lines c = done 0 (softReset c)
+writeAt Csr word lines c = done 0 (withControl (configured word (c .control)) c)
+writeAt Timestamp word lines c = refuse Forbidden c
+writeAt Filter word lines c = done 0 (withControl (filtering word (c .control)) c)
+writeAt Waits word lines c = done 0 (withControl (unwaited (c .control)) c)
+writeAt Overruns word lines c = done 0 (withControl (unlost (c .control)) c)
+writeAt Mux word lines c = done 0 (withSwitches (selecting word (c .switches)) c)
+writeAt Clear word lines c = done 0 (withBank (cleared (word % 2 ^ 16) (c .bank)) c)
+writeAt Enable word lines c = done 0 (withSwitches (enabling word (c .switches)) c)
+writeAt Disable word lines c = done 0 (withSwitches (disabling word (c .switches)) c)
+writeAt (Source i) word lines c = done 0 (withSources (set (c .sources) i (word % 2 ^ 32)) c)
+writeAt (Counter i) word lines c = done 0 (withBank (fired i (c .switches) (c .bank)) c)
+writeAt (Trace level) word lines c = trigger false level word lines c
+writeAt (Resource level) word lines c = trigger true level word lines c
+
+-- "A counter read with the shadows free copies all sixteen to the shadows and returns the chosen one .. With the shadows busy: reply
+-- 10 if read wait is set, otherwise 11"
+unfoldable pub readCounter : ℕ → Chip → Answer
+readCounter i c =
+    cond (busy (c .queue))
+    (cond (c .control .readwait)
+    (refuse Wait (withControl (waited (c .control)) c))
+    (record { chip = c; value = 2 ^ 63; reply = Busy }))
+    (done (getD (c .bank .values) i 0) (withBank (copied (c .bank)) c))
+
+unfoldable pub readAt : Place → Chip → Answer
+readAt Beyond c = refuse TooHigh c
+readAt Nowhere c = refuse Nothing c
+readAt Reset c = refuse Forbidden c
+readAt Csr c = done (csrOf (full (c .queue)) (busy (c .queue)) (c .control)) c
+readAt Timestamp c = done (c .stamp) c
+readAt Filter c = done (c .control .filter) c
+readAt Waits c = done (c .control .wait) c
+readAt Overruns c = done (c .control .overrun) c
+readAt Mux c = done (selection (c .switches)) c
+readAt Clear c = refuse Forbidden c
+readAt Enable c = done (c .switches .enabled) c
+readAt Disable c = refuse Forbidden c
+readAt (Source i) c = done (getD (c .sources) i 0) c
+readAt (Counter i) c = readCounter i c
+readAt (Trace level) c = refuse Forbidden c
+readAt (Resource level) c = refuse Forbidden c
+
+-- ---- the operations
+
+abbrev pub hardReset : Chip → Answer
+hardReset c = done 0 fresh
+
+unfoldable pub write : ℕ → ℕ → ℕ → Chip → Answer
+write address word lines c = guarded c (writeAt (placeOf address) word lines c)
+
+unfoldable pub read : ℕ → Chip → Answer
+read address c = guarded c (readAt (placeOf address) c)
+
+-- "Timestamp wraps at 2^56"; the slow events among the ticks count
+abbrev pub afterTicks : ℕ → Chip → Chip
+afterTicks k c =
+    record {
+      stamp = (c .stamp + k) % 2 ^ 56;
+      queue = c .queue;
+      bank = ticked Slow (slowEvents k (c .switches)) (c .switches) (c .bank);
+      sources = c .sources;
+      control = c .control;
+      switches = ticking k (c .switches);
+    }
+
+unfoldable pub timestampTicks : ℕ → Chip → Answer
+timestampTicks k c = guarded c (done 0 (afterTicks k c))
+
+unfoldable pub nodeTicks : ℕ → Chip → Answer
+nodeTicks k c = guarded c (done 0 (withBank (ticked Node k (c .switches) (c .bank)) c))
+
+unfoldable pub externalEvents : ℕ → Chip → Answer
+externalEvents mask c = guarded c (done 0 (withBank (signalled mask (c .switches) (c .bank)) c))
+
+-- "5 no word to send", else the next word
+abbrev pub sendNow : Chip → Answer
+sendNow c =
+    cond (eqb (c .queue .held) 0) (refuse NoWord c)
+    (done (nextWord (c .bank .shadows) (c .queue)) (withQueue (advanced (c .queue)) c))
+
+unfoldable pub send : Chip → Answer
+send c = guarded c (sendNow c)
+
+-- "A buffer send with nothing left returns 0 words with reply 0"
+unfoldable pub sendInto : ℕ → Chip → Answer
+sendInto room c =
+    let s = sendMany room (c .bank .shadows) (c .queue) in
+    guarded c (done (s .count) (withQueue (s .queue) c))
+
+-- "With 15 a lent buffer is untouched"
+unfoldable pub sentBuffer : Chip → List ℕ → List ℕ
+sentBuffer c out = cond (inside c) (sendBuffer (c .bank .shadows) (c .queue) out) out

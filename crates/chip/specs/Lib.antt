@@ -1,0 +1,5 @@
+pub mod Chip
+pub mod Control
+pub mod Fate
+pub mod Place
+pub mod Reply

@@ -1,0 +1,404 @@
+// The chip: one record by value, and each operation with the next record beside its reply.
+use super::control::Control;
+use super::place::Place;
+use super::place::find;
+use super::reply::Reply;
+use counters::bank::Bank;
+use counters::switches::Kind;
+use counters::switches::Switches;
+use queue::queue::Held;
+use queue::queue::Queue;
+ghost use mathlib.Core.Path.{_≡_};
+ghost use mathlib.Core.Bool.{cond};
+ghost use Prim.Native.Nat.{_<_, _≤_, _^_};
+ghost use lib.ListN.{getD, length, set};
+ghost use Rattle.counters.specs.Bank.{copied};
+ghost use Rattle.chip.specs.Chip.{afterTicks, blocked, done, externalEvents, fresh, hardReset, headerOf, inside, nodeTicks, read, readAt, readCounter, refuse, sampleNow, send, sendInto, sentBuffer, softReset, takeSample, timestampTicks, trigger, triggerBy, fateOf, withBank, withControl, withSources, withSwitches, write, writeAt};
+ghost use Rattle.chip.specs.Control.{one};
+
+// Wide parts first: no padding (400 bytes).
+pub struct Chip {
+    pub stamp: u64,
+    pub queue: Queue,
+    pub bank: Bank,
+    pub sources: [u32; 8],
+    pub control: Control,
+    pub switches: Switches,
+}
+
+// An answer: the next chip, the value and the reply.
+pub struct Answer {
+    pub chip: Chip,
+    pub value: u64,
+    pub reply: Reply,
+}
+
+impl Chip {
+    // The chip after a hardware reset: every part zero.
+    pub fn fresh() -> Chip
+        ensures { λ r. ⌜ r ≡ fresh ⌝ }
+    {
+        Chip {
+            stamp: 0,
+            queue: Queue::empty(),
+            bank: Bank {
+                values: [0; 16],
+                shadows: [0; 16],
+            },
+            sources: [0; 8],
+            control: Control {
+                wait: 0,
+                overrun: 0,
+                filter: 0,
+                sampling: false,
+                writewait: false,
+                readwait: false,
+                flagfull: false,
+                flagbusy: false,
+                lost: false,
+            },
+            switches: Switches {
+                enabled: 0,
+                low: 0,
+                high: 0,
+                phase: 0,
+            },
+        }
+    }
+
+    pub fn hardware_reset(self) -> Answer
+        ensures { λ r. ⌜ r ≡ hardReset self ⌝ }
+    {
+        Chip::fresh().done(0)
+    }
+
+    // Whether the record is one that operations can leave: the bounds of reply 15.
+    pub fn inside(self) -> bool
+        ensures { λ r. ⌜ r ≡ inside self ⌝ }
+    {
+        let queue = self.queue;
+        let phase = self.switches.phase;
+        queue.inside() & (phase < 10) & (self.stamp < 72057594037927936)
+    }
+
+    // Done, with a value.
+    fn done(self, value: u64) -> Answer
+        ensures { λ r. ⌜ r ≡ done value self ⌝ }
+    {
+        Answer {
+            chip: self,
+            value,
+            reply: Reply::Done,
+        }
+    }
+
+    // Nothing changed, and the value 0.
+    fn refuse(self, reply: Reply) -> Answer
+        ensures { λ r. ⌜ r ≡ refuse reply self ⌝ }
+    {
+        Answer {
+            chip: self,
+            value: 0,
+            reply,
+        }
+    }
+}
+
+impl Chip {
+    pub fn write(self, address: u64, word: u64, lines: u8) -> Answer
+        ensures { λ r. ⌜ r ≡ write address word lines self ⌝ }
+    {
+        if self.inside() {
+            return self.write_at(find(address), word, lines);
+        }
+        self.refuse(Reply::Outside)
+    }
+
+    pub fn read(self, address: u64) -> Answer
+        ensures { λ r. ⌜ r ≡ read address self ⌝ }
+    {
+        if self.inside() {
+            return self.read_at(find(address));
+        }
+        self.refuse(Reply::Outside)
+    }
+
+    pub fn timestamp_ticks(self, count: u32) -> Answer
+        ensures { λ r. ⌜ r ≡ timestampTicks count self ⌝ }
+    {
+        if self.inside() {
+            return self.after_ticks(count).done(0);
+        }
+        self.refuse(Reply::Outside)
+    }
+
+    pub fn node_ticks(mut self, count: u32) -> Answer
+        ensures { λ r. ⌜ r ≡ nodeTicks count self ⌝ }
+    {
+        if self.inside() {
+            let bank = self.bank.ticked(self.switches, Kind::Node, count);
+            self.bank = bank;
+            return self.done(0);
+        }
+        self.refuse(Reply::Outside)
+    }
+
+    pub fn external_events(mut self, mask: u16) -> Answer
+        ensures { λ r. ⌜ r ≡ externalEvents mask self ⌝ }
+    {
+        if self.inside() {
+            let bank = self.bank.signalled(self.switches, mask);
+            self.bank = bank;
+            return self.done(0);
+        }
+        self.refuse(Reply::Outside)
+    }
+
+    // The next word, if there is one.
+    pub fn send(mut self) -> Answer
+        ensures { λ r. ⌜ r ≡ send self ⌝ }
+    {
+        if self.inside() {
+            if self.queue.held == 0 {
+                return self.refuse(Reply::NoWord);
+            }
+            let shadows = self.bank.shadows;
+            let sent = self.queue.send(shadows);
+            let queue = sent.queue;
+            self.queue = queue;
+            return self.done(sent.word);
+        }
+        self.refuse(Reply::Outside)
+    }
+
+    // As many words as the buffer has places or as are left.
+    pub fn send_into(mut self, out: &mut [u16]) -> Answer
+        ensures { λ r. ⌜ r ≡ sendInto (length (now (out .entry))) self ⌝ }
+        ensures { λ r. ⌜ now (out .exit) ≡ sentBuffer self (now (out .entry)) ⌝ }
+    {
+        if self.inside() {
+            let shadows = self.bank.shadows;
+            let sent = self.queue.send_into(shadows, out);
+            let queue = sent.queue;
+            self.queue = queue;
+            return self.done(sent.count);
+        }
+        self.refuse(Reply::Outside)
+    }
+}
+
+impl Chip {
+    // A write, by what stands at the address.
+    fn write_at(self, place: Place, word: u64, lines: u8) -> Answer
+        ensures { λ r. ⌜ r ≡ writeAt place word lines self ⌝ }
+    {
+        match place {
+            Place::Beyond => self.refuse(Reply::TooHigh),
+            Place::Nowhere => self.refuse(Reply::Nothing),
+            Place::Reset => self.soft_reset().done(0),
+            Place::Csr => self.controlled(self.control.configured(word)).done(0),
+            Place::Timestamp => self.refuse(Reply::Forbidden),
+            Place::Filter => self.controlled(self.control.filtering(word)).done(0),
+            Place::Waits => self.controlled(self.control.unwaited()).done(0),
+            Place::Overruns => self.controlled(self.control.unlost()).done(0),
+            Place::Mux => self.switched(self.switches.selecting(word)).done(0),
+            Place::Clear => self.banked(self.bank.cleared((word % 65536) as u16))
+                .done(0),
+            Place::Enable => self.switched(self.switches.enabling(word)).done(0),
+            Place::Disable => self.switched(self.switches.disabling(word)).done(0),
+            Place::Source(i) => self.sourced(i, (word % 4294967296) as u32).done(0),
+            Place::Counter(i) => self.banked(self.bank.fired(self.switches, i)).done(0),
+            Place::Trace(level) => self.trigger(false, level, word, lines),
+            Place::Resource(level) => self.trigger(true, level, word, lines),
+        }
+    }
+
+    // A read, by what stands at the address.
+    fn read_at(self, place: Place) -> Answer
+        ensures { λ r. ⌜ r ≡ readAt place self ⌝ }
+    {
+        match place {
+            Place::Beyond => self.refuse(Reply::TooHigh),
+            Place::Nowhere => self.refuse(Reply::Nothing),
+            Place::Reset => self.refuse(Reply::Forbidden),
+            Place::Csr => self.done(self.control.csr(self.queue.full(), self.queue.busy())),
+            Place::Timestamp => self.done(self.stamp),
+            Place::Filter => self.done(self.control.filter as u64),
+            Place::Waits => self.done(self.control.wait as u64),
+            Place::Overruns => self.done(self.control.overrun as u64),
+            Place::Mux => self.done(self.switches.selection()),
+            Place::Clear => self.refuse(Reply::Forbidden),
+            Place::Enable => self.done(self.switches.enabled as u64),
+            Place::Disable => self.refuse(Reply::Forbidden),
+            Place::Source(i) => self.done(self.source(i) as u64),
+            Place::Counter(i) => self.read_counter(i),
+            Place::Trace(_) => self.refuse(Reply::Forbidden),
+            Place::Resource(_) => self.refuse(Reply::Forbidden),
+        }
+    }
+
+    fn soft_reset(self) -> Chip
+        ensures { λ r. ⌜ r ≡ softReset self ⌝ }
+    {
+        let mut chip = Chip::fresh();
+        chip.stamp = self.stamp;
+        chip
+    }
+
+    fn controlled(mut self, control: Control) -> Chip
+        ensures { λ r. ⌜ r ≡ withControl control self ⌝ }
+    {
+        self.control = control;
+        self
+    }
+
+    fn switched(mut self, switches: Switches) -> Chip
+        ensures { λ r. ⌜ r ≡ withSwitches switches self ⌝ }
+    {
+        self.switches = switches;
+        self
+    }
+
+    fn banked(mut self, bank: Bank) -> Chip
+        ensures { λ r. ⌜ r ≡ withBank bank self ⌝ }
+    {
+        self.bank = bank;
+        self
+    }
+
+    // A Source Address register takes a number.
+    fn sourced(mut self, index: usize, number: u32) -> Chip
+        ensures { λ r. ⌜ r ≡ withSources (set (self .sources) index number) self ⌝ }
+    {
+        if index < 8 {
+            self.sources[index] = number;
+        }
+        self
+    }
+
+    fn source(self, index: usize) -> u32
+        ensures { λ r. ⌜ r ≡ getD (self .sources) index 0 ⌝ }
+    {
+        if index < 8 { self.sources[index] } else { 0 }
+    }
+
+    // A counter through the shadows, or a wait, or no data.
+    fn read_counter(self, index: usize) -> Answer
+        ensures { λ r. ⌜ r ≡ readCounter index self ⌝ }
+    {
+        if self.queue.busy() {
+            if self.control.readwait {
+                return self.controlled(self.control.waited()).refuse(Reply::Wait);
+            }
+            return Answer {
+                chip: self,
+                value: 9223372036854775808,
+                reply: Reply::Busy,
+            };
+        }
+        self.banked(self.bank.copied())
+            .done(self.bank.value(index) as u64)
+    }
+
+    // The Timestamp, the slow clock and the counters after some ticks.
+    fn after_ticks(mut self, count: u32) -> Chip
+        requires { ⌜ self .stamp < 2 ^ 56 ⌝ }
+        ensures { λ r. ⌜ r ≡ afterTicks count self ⌝ }
+    {
+        let slow = self.switches.slow_events(count);
+        let bank = self.bank.ticked(self.switches, Kind::Slow, slow);
+        let switches = self.switches.ticking(count);
+        self.stamp = (self.stamp + count as u64) % 72057594037927936;
+        self.bank = bank;
+        self.switches = switches;
+        self
+    }
+}
+
+impl Chip {
+    // A trigger, by its line, the settings, the Filter and the room.
+    fn trigger(self, resource: bool, level: usize, word: u64, lines: u8) -> Answer
+        ensures { λ r. ⌜ r ≡ trigger resource level word lines self ⌝ }
+    {
+        if u8::count_ones(lines) == 1 {
+            let line = u8::trailing_zeros(lines);
+            return self.trigger_line(resource, level, word, line);
+        }
+        self.refuse(Reply::Lines)
+    }
+
+    // The same, of a trigger with one active line.
+    fn trigger_line(self, resource: bool, level: usize, word: u64, line: u32) -> Answer
+        requires { ⌜ line ≤ 8 ⌝ }
+        ensures { λ r. ⌜ r ≡ triggerBy (fateOf resource level self) resource line word self ⌝ }
+    {
+        let control = self.control;
+        if !control.sampling {
+            return self.refuse(Reply::Off);
+        }
+        if !control.passes(level) {
+            return self.refuse(Reply::Filtered);
+        }
+        let full = self.queue.full();
+        let blocked = self.blocked(resource);
+        if full | blocked {
+            if control.writewait {
+                return self.controlled(control.waited()).refuse(Reply::Wait);
+            }
+            return self.controlled(control.overran(full, blocked))
+                .refuse(Reply::Lost);
+        }
+        self.take(resource, line, word).done(0)
+    }
+
+    // Whether a Resource trigger finds the shadows busy.
+    fn blocked(self, resource: bool) -> bool
+        ensures { λ r. ⌜ r ≡ blocked resource (self .queue) ⌝ }
+    {
+        if resource { self.queue.busy() } else { false }
+    }
+
+    // A sample is taken as the record stands.
+    fn take(mut self, resource: bool, line: u32, word: u64) -> Chip
+        requires { ⌜ line ≤ 8 ⌝ }
+        ensures { λ r. ⌜ r ≡ takeSample resource line word self ⌝ }
+    {
+        let sample = self.sample_now(resource, line, word);
+        let queue = self.queue.pushed(sample);
+        let bank = self.shadowed(resource);
+        let control = self.control.taken();
+        self.queue = queue;
+        self.bank = bank;
+        self.control = control;
+        self
+    }
+
+    fn shadowed(self, resource: bool) -> Bank
+        ensures { λ r. ⌜ r ≡ cond resource (copied (self .bank)) (self .bank) ⌝ }
+    {
+        if resource {
+            self.bank.copied()
+        } else {
+            self.bank
+        }
+    }
+
+    fn sample_now(self, resource: bool, line: u32, word: u64) -> Held
+        requires { ⌜ line ≤ 8 ⌝ }
+        ensures { λ r. ⌜ r ≡ sampleNow resource line word self ⌝ }
+    {
+        Held {
+            user: word % 281474976710656,
+            stamp: self.stamp % 1099511627776,
+            source: self.source(line as usize),
+            header: line + 8 * one(resource) + 16 * one(self.control.lost),
+        }
+    }
+}
+
+fn one(flag: bool) -> u32
+    ensures { λ r. ⌜ r ≡ one flag ⌝ }
+    ensures { λ r. ⌜ r ≤ 1 ⌝ }
+{
+    if flag { 1 } else { 0 }
+}

@@ -1,0 +1,124 @@
+// The settings, the Filter, the error counters, the overrun flags and the lost mark.
+ghost use mathlib.Core.Path.{_≡_};
+ghost use Prim.Native.Nat.{_≤_};
+ghost use Rattle.counters.specs.Bank.{bit};
+ghost use Rattle.chip.specs.Control.{configured, csrOf, filtering, one, overran, pair, taken, unlost, unwaited, waited};
+
+// No padding (16 bytes).
+pub struct Control {
+    pub wait: u32,
+    pub overrun: u32,
+    pub filter: u16,
+    pub sampling: bool,
+    pub writewait: bool,
+    pub readwait: bool,
+    pub flagfull: bool,
+    pub flagbusy: bool,
+    pub lost: bool,
+}
+
+impl Control {
+    // The three settings after a write of the CSR.
+    pub fn configured(mut self, word: u64) -> Control
+        ensures { λ r. ⌜ r ≡ configured word self ⌝ }
+    {
+        self.sampling = pair(word % 2 == 1, word / 2 % 2 == 1, self.sampling);
+        self.writewait = pair(word / 4 % 2 == 1, word / 8 % 2 == 1, self.writewait);
+        self.readwait = pair(word / 16 % 2 == 1, word / 32 % 2 == 1, self.readwait);
+        self
+    }
+
+    pub fn filtering(mut self, word: u64) -> Control
+        ensures { λ r. ⌜ r ≡ filtering word self ⌝ }
+    {
+        self.filter = (word % 65536) as u16;
+        self
+    }
+
+    // One wait more.
+    pub fn waited(mut self) -> Control
+        ensures { λ r. ⌜ r ≡ waited self ⌝ }
+    {
+        let next = std::num::wrapping_add_u32(self.wait, 1);
+        self.wait = next;
+        self
+    }
+
+    pub fn unwaited(mut self) -> Control
+        ensures { λ r. ⌜ r ≡ unwaited self ⌝ }
+    {
+        self.wait = 0;
+        self
+    }
+
+    // One lost trigger more, with its reasons.
+    pub fn overran(mut self, full: bool, busy: bool) -> Control
+        ensures { λ r. ⌜ r ≡ overran full busy self ⌝ }
+    {
+        let next = std::num::wrapping_add_u32(self.overrun, 1);
+        self.overrun = next;
+        self.flagfull = self.flagfull | full;
+        self.flagbusy = self.flagbusy | busy;
+        self.lost = true;
+        self
+    }
+
+    // The Overrun Counter and both flags cleared, the lost mark kept.
+    pub fn unlost(mut self) -> Control
+        ensures { λ r. ⌜ r ≡ unlost self ⌝ }
+    {
+        self.overrun = 0;
+        self.flagfull = false;
+        self.flagbusy = false;
+        self
+    }
+
+    // The lost mark went with a taken sample.
+    pub fn taken(mut self) -> Control
+        ensures { λ r. ⌜ r ≡ taken self ⌝ }
+    {
+        self.lost = false;
+        self
+    }
+
+    // Whether the Filter lets a level pass.
+    pub fn passes(self, level: usize) -> bool
+        ensures { λ r. ⌜ r ≡ bit (self .filter) level ⌝ }
+    {
+        if level < 16 {
+            (self.filter >> level) % 2 == 1
+        } else {
+            false
+        }
+    }
+
+    // The CSR as it is read.
+    pub fn csr(self, full: bool, busy: bool) -> u64
+        ensures { λ r. ⌜ r ≡ csrOf full busy self ⌝ }
+    {
+        let settings = one(self.sampling) + 4 * one(self.writewait) + 16 * one(self.readwait);
+        let queue = 64 * one(full) + 128 * one(busy);
+        let flags = 256 * one(self.flagfull) + 512 * one(self.flagbusy);
+        settings + queue + flags
+    }
+}
+
+// A setting after its pair of bits: the odd bit wins.
+fn pair(even: bool, odd: bool, before: bool) -> bool
+    ensures { λ r. ⌜ r ≡ pair even odd before ⌝ }
+{
+    if odd {
+        return false;
+    }
+    if even {
+        return true;
+    }
+    before
+}
+
+fn one(flag: bool) -> u64
+    ensures { λ r. ⌜ r ≡ one flag ⌝ }
+    ensures { λ r. ⌜ r ≤ 1 ⌝ }
+{
+    if flag { 1 } else { 0 }
+}
