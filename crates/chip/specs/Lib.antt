@@ -1,5 +1,6 @@
 pub mod Chip
 pub mod Control
 pub mod Fate
+pub mod Operation
 pub mod Place
 pub mod Reply
