@@ -1,0 +1,61 @@
+-- Document 01, "Bench program": the records of twelve bytes and what they do.
+use Prim.Native.Nat.{ℕ, _^_}
+use mathlib.Core.Bool.{cond}
+use mathlib.Core.List.{List}
+use lib.Dec.{eqb, ltb}
+use lib.ListN.{drop, getD, length}
+use Rattle.words.specs.Bytes.{number}
+use Rattle.chip.specs.Chip.{externalEvents, hardReset, nodeTicks, read, send, timestampTicks, write}
+use Rattle.chip.specs.Reply.{replyNumber}
+use Rattle.chip.specs.declared.chip.Answer.{Answer}
+use Rattle.chip.specs.declared.chip.Chip.{Chip}
+use Rattle.script.specs.declared.operation.Operation.{Operation}
+use Rattle.script.specs.declared.operation.Operation.the-variants.{Bad, Reset, Write, Read, Ticks, Nodes, Events, Send}
+use Rattle.script.specs.declared.operation.Outcome.{Outcome}
+
+-- "Reply 9: .. tick count above 4,294,967,295, mask above 65,535"
+abbrev pub ticks : ℕ → Operation
+ticks word = cond (ltb word (2 ^ 32)) (Ticks word) Bad
+
+abbrev pub nodes : ℕ → Operation
+nodes word = cond (ltb word (2 ^ 32)) (Nodes word) Bad
+
+abbrev pub events : ℕ → Operation
+events word = cond (ltb word (2 ^ 16)) (Events word) Bad
+
+-- "Kinds: 0 hardware reset, 1 write, 2 read, 3 Timestamp ticks, 4 node ticks, 5 external events, 6 send one word. Fields a kind
+-- doesn't need are ignored. Reply 9: kind above 6"
+unfoldable pub byKind : ℕ → ℕ → ℕ → ℕ → Operation
+byKind kind address lines word =
+    cond (eqb kind 0) Reset
+    (cond (eqb kind 1) (Write address word lines)
+    (cond (eqb kind 2) (Read address)
+    (cond (eqb kind 3) (ticks word)
+    (cond (eqb kind 4) (nodes word)
+    (cond (eqb kind 5) (events word)
+    (cond (eqb kind 6) Send Bad))))))
+
+-- "12-byte records: kind, address, lines, a zero byte, data (8 bytes, low first)"; "Reply 9: .. nonzero fourth byte, .. or a last part
+-- of a record"
+unfoldable pub operationOf : List ℕ → Operation
+operationOf bytes =
+    cond (eqb (length bytes) 12)
+    (cond (eqb (getD bytes 3 0) 0)
+    (byKind (getD bytes 0 0) (getD bytes 1 0) (getD bytes 2 0) (number (drop 4 bytes)))
+    Bad)
+    Bad
+
+-- an answer with document 01's number for its reply
+abbrev pub outcomeOf : Answer → Outcome
+outcomeOf a = record { chip = a .chip; value = a .value; number = replyNumber (a .reply) }
+
+-- what a record does; "9 bad bench record", value 0, the record the same
+unfoldable pub runOf : Operation → Chip → Outcome
+runOf Bad c = record { chip = c; value = 0; number = 9 }
+runOf Reset c = outcomeOf (hardReset c)
+runOf (Write address word lines) c = outcomeOf (write address word lines c)
+runOf (Read address) c = outcomeOf (read address c)
+runOf (Ticks k) c = outcomeOf (timestampTicks k c)
+runOf (Nodes k) c = outcomeOf (nodeTicks k c)
+runOf (Events mask) c = outcomeOf (externalEvents mask c)
+runOf Send c = outcomeOf (send c)

@@ -1,0 +1,43 @@
+-- Document 01, "Bench program": the records of an input, one after the other, and the text they give.
+use Prim.Native.Nat.{ℕ, zero, suc, _*_, _/_, min}
+use mathlib.Core.List.{List, [], _++_}
+use lib.ListN.{drop, length, take}
+use Rattle.chip.specs.declared.chip.Chip.{Chip}
+use Rattle.script.specs.Line.{lineOf}
+use Rattle.script.specs.Record.{operationOf, runOf}
+use Rattle.script.specs.declared.block.Block.{Block}
+use Rattle.script.specs.declared.operation.Outcome.{Outcome}
+
+-- record i of an input, and what it does to a chip
+abbrev pub outcomeAt : List ℕ → ℕ → Chip → Outcome
+outcomeAt input i c = runOf (operationOf (take 12 (drop (12 * i) input))) c
+
+-- the chip after the first n records
+unfoldable pub chipAfter : ℕ → List ℕ → Chip → Chip
+chipAfter zero input c = c
+chipAfter (suc n) input c = outcomeAt input n (chipAfter n input c) .chip
+
+-- the line of record n, and the lines of the first n records
+abbrev pub lineAt : ℕ → List ℕ → Chip → List ℕ
+lineAt n input c =
+    let o = outcomeAt input n (chipAfter n input c) in
+    lineOf (o .number) (o .value)
+
+unfoldable pub textAfter : ℕ → List ℕ → Chip → List ℕ
+textAfter zero input c = []
+textAfter (suc n) input c = textAfter n input c ++ lineAt n input c
+
+-- a block takes the whole records that an input has and that a buffer of this size has room for
+abbrev pub blockCount : List ℕ → ℕ → ℕ
+blockCount input room = min (length input / 12) (room / 42)
+
+unfoldable pub blockOf : List ℕ → ℕ → Chip → Block
+blockOf input room c =
+    let n = blockCount input room in
+    record { chip = chipAfter n input c; records = n; written = length (textAfter n input c) }
+
+-- the buffer: the text, then what was there
+unfoldable pub blockBuffer : List ℕ → List ℕ → Chip → List ℕ
+blockBuffer input out c =
+    let text = textAfter (blockCount input (length out)) input c in
+    text ++ drop (length text) out

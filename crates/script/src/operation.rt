@@ -1,0 +1,155 @@
+// A record of twelve bytes, and what it does.
+use chip::chip::Answer;
+use chip::chip::Chip;
+use chip::reply::Reply;
+
+ghost use mathlib.Core.Path.{_≡_};
+ghost use lib.ListN.{drop, length};
+ghost use Rattle.words.specs.Bytes.{number};
+ghost use Rattle.chip.specs.Reply.{replyNumber};
+ghost use Rattle.script.specs.Record.{byKind, events, nodes, operationOf, outcomeOf, runOf, ticks};
+
+// What a record asks for; Bad is reply 9.
+pub enum Operation {
+    Bad,
+    Reset,
+    // Address, data and processor lines.
+    Write(u64, u64, u8),
+    Read(u64),
+    Ticks(u32),
+    Nodes(u32),
+    Events(u16),
+    Send,
+}
+
+// The next chip, the value, and document 01's reply number.
+pub struct Outcome {
+    pub chip: Chip,
+    pub value: u64,
+    pub number: u64,
+}
+
+// The operation of a record: kind, address, lines, a zero byte, data.
+pub fn decode(record: &[u8]) -> Operation
+    ensures { λ r. ⌜ r ≡ operationOf (now (record .entry)) ⌝ }
+{
+    if record.len() != 12 {
+        return Operation::Bad;
+    }
+    if record[3] != 0 {
+        return Operation::Bad;
+    }
+    by_kind(record[0], record[1], record[2], word_of(record))
+}
+
+fn by_kind(kind: u8, address: u8, lines: u8, word: u64) -> Operation
+    ensures { λ r. ⌜ r ≡ byKind kind address lines word ⌝ }
+{
+    match kind {
+        0 => Operation::Reset,
+        1 => Operation::Write(address as u64, word, lines),
+        2 => Operation::Read(address as u64),
+        3 => ticks(word),
+        4 => nodes(word),
+        5 => events(word),
+        6 => Operation::Send,
+        _ => Operation::Bad,
+    }
+}
+
+fn ticks(word: u64) -> Operation
+    ensures { λ r. ⌜ r ≡ ticks word ⌝ }
+{
+    if word <= 4294967295 {
+        return Operation::Ticks(word as u32);
+    }
+    Operation::Bad
+}
+
+fn nodes(word: u64) -> Operation
+    ensures { λ r. ⌜ r ≡ nodes word ⌝ }
+{
+    if word <= 4294967295 {
+        return Operation::Nodes(word as u32);
+    }
+    Operation::Bad
+}
+
+fn events(word: u64) -> Operation
+    ensures { λ r. ⌜ r ≡ events word ⌝ }
+{
+    if word <= 65535 {
+        return Operation::Events(word as u16);
+    }
+    Operation::Bad
+}
+
+// The data of a record: its last eight bytes, low first.
+fn word_of(record: &[u8]) -> u64
+    requires { ⌜ length (now record) ≡ 12 ⌝ }
+    ensures { λ r. ⌜ r ≡ number (drop 4 (now (record .entry))) ⌝ }
+{
+    let a = record[4] as u64;
+    let b = record[5] as u64;
+    let c = record[6] as u64;
+    let d = record[7] as u64;
+    let e = record[8] as u64;
+    let f = record[9] as u64;
+    let g = record[10] as u64;
+    let h = record[11] as u64;
+    let low = a + 256 * b + 65536 * c + 16777216 * d;
+    let high = e + 256 * f + 65536 * g + 16777216 * h;
+    low + 4294967296 * high
+}
+
+// A record's step on the chip.
+pub fn run(chip: Chip, operation: Operation) -> Outcome
+    ensures { λ r. ⌜ r ≡ runOf operation chip ⌝ }
+{
+    match operation {
+        Operation::Bad => Outcome {
+            chip,
+            value: 0,
+            number: 9,
+        },
+        Operation::Reset => outcome(chip.hardware_reset()),
+        Operation::Write(address, word, lines) => outcome(chip.write(address, word, lines)),
+        Operation::Read(address) => outcome(chip.read(address)),
+        Operation::Ticks(count) => outcome(chip.timestamp_ticks(count)),
+        Operation::Nodes(count) => outcome(chip.node_ticks(count)),
+        Operation::Events(mask) => outcome(chip.external_events(mask)),
+        Operation::Send => outcome(chip.send()),
+    }
+}
+
+fn outcome(answer: Answer) -> Outcome
+    ensures { λ r. ⌜ r ≡ outcomeOf answer ⌝ }
+{
+    let chip = answer.chip;
+    let reply = answer.reply;
+    Outcome {
+        chip,
+        value: answer.value,
+        number: number_of(reply),
+    }
+}
+
+// Document 01's number of a reply.
+pub fn number_of(reply: Reply) -> u64
+    ensures { λ r. ⌜ r ≡ replyNumber reply ⌝ }
+{
+    match reply {
+        Reply::Done => 0,
+        Reply::TooHigh => 1,
+        Reply::Nothing => 2,
+        Reply::Forbidden => 3,
+        Reply::Lines => 4,
+        Reply::NoWord => 5,
+        Reply::Off => 6,
+        Reply::Filtered => 7,
+        Reply::Lost => 8,
+        Reply::Wait => 10,
+        Reply::Busy => 11,
+        Reply::Outside => 15,
+    }
+}
