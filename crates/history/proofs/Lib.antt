@@ -1,0 +1,2 @@
+-- The laws and the theorems of demand 3.
+pub mod HeldLaws

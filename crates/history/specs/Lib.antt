@@ -1,0 +1,3 @@
+pub mod Ledger
+pub mod Run
+pub mod Stream
