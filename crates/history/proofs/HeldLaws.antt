@@ -54,15 +54,17 @@ offsetOf (s ∷ ss) n = cond (leb (lengthOf s) n) (offsetOf ss (n - lengthOf s))
 module _ (s : Sample) (ss : List Sample) (n : ℕ) where
   pub held-past : lengthOf s ≤ n → (heldOf (s ∷ ss) n ≡ heldOf ss (n - lengthOf s)) × (offsetOf (s ∷ ss) n ≡ offsetOf ss (n - lengthOf s))
   unfolding heldOf offsetOf
-  held-past h =
-      (ap (λ (b : Bool). cond b (heldOf ss (n - lengthOf s)) (s ∷ ss)) (le-leb (lengthOf s) n h),
-        ap (λ (b : Bool). cond b (offsetOf ss (n - lengthOf s)) n) (le-leb (lengthOf s) n h))
+  held-past h = (
+    ap (λ (b : Bool). cond b (heldOf ss (n - lengthOf s)) (s ∷ ss)) (le-leb (lengthOf s) n h),
+    ap (λ (b : Bool). cond b (offsetOf ss (n - lengthOf s)) n) (le-leb (lengthOf s) n h),
+  )
 
   pub held-here : n < lengthOf s → (heldOf (s ∷ ss) n ≡ s ∷ ss) × (offsetOf (s ∷ ss) n ≡ n)
   unfolding heldOf offsetOf
-  held-here h =
-      (ap (λ (b : Bool). cond b (heldOf ss (n - lengthOf s)) (s ∷ ss)) (lt-leb (lengthOf s) n h),
-        ap (λ (b : Bool). cond b (offsetOf ss (n - lengthOf s)) n) (lt-leb (lengthOf s) n h))
+  held-here h = (
+    ap (λ (b : Bool). cond b (heldOf ss (n - lengthOf s)) (s ∷ ss)) (lt-leb (lengthOf s) n h),
+    ap (λ (b : Bool). cond b (offsetOf ss (n - lengthOf s)) n) (lt-leb (lengthOf s) n h),
+  )
 
 pub held-none-sent : (ss : List Sample) → (heldOf ss 0 ≡ ss) × (offsetOf ss 0 ≡ 0)
 unfolding heldOf offsetOf
@@ -128,13 +130,13 @@ next-word (s ∷ ss) n h = go (leb (lengthOf s) n) refl (λ k. next-word ss (n -
           is = now .0 ∙ x .is;
           unsent = subst (λ (o : ℕ). o < lengthOf (x .first)) (sym (now .1)) (x .unsent);
           stays =
-            λ k.
+              λ k.
               let y = x .stays (subst (λ (o : ℕ). o + 1 < lengthOf (x .first)) (now .1) k) in
               (then .0 ∙ ap (heldOf ss) one ∙ y .0, then .1 ∙ ap (offsetOf ss) one ∙ y .1 ∙ ap (λ (o : ℕ). o + 1) (sym (now .1)));
           ends =
-            λ k.
+              λ k.
               let y = x .ends (subst (λ (o : ℕ). lengthOf (x .first) ≤ o + 1) (now .1) k) in
-              (then .0 ∙ ap (heldOf ss) one ∙ y .0, then .1 ∙ ap (offsetOf ss) one ∙ y .1)
+              (then .0 ∙ ap (heldOf ss) one ∙ y .0, then .1 ∙ ap (offsetOf ss) one ∙ y .1);
         }
     go false e ih =
         let here : n < lengthOf s = leb-false (lengthOf s) n e in
@@ -145,14 +147,30 @@ next-word (s ∷ ss) n h = go (leb (lengthOf s) n) refl (λ k. next-word ss (n -
           is = now .0;
           unsent = subst (λ (o : ℕ). o < lengthOf s) (sym (now .1)) here;
           stays =
-            λ k.
+              λ k.
               let then = held-here s ss (n + 1) (subst (λ (o : ℕ). o + 1 < lengthOf s) (now .1) k) in
               (then .0, then .1 ∙ ap (λ (o : ℕ). o + 1) (sym (now .1)));
           ends =
-            λ k.
+              λ k.
               let last : lengthOf s ≤ n + 1 = subst (λ (o : ℕ). lengthOf s ≤ o + 1) (now .1) k in
               let then = held-past s ss (n + 1) last in
               let zero-left : n + 1 - lengthOf s ≡ 0 = omega arith in
               let none = held-none-sent ss in
-              (then .0 ∙ ap (heldOf ss) zero-left ∙ none .0, then .1 ∙ ap (offsetOf ss) zero-left ∙ none .1)
+              (then .0 ∙ ap (heldOf ss) zero-left ∙ none .0, then .1 ∙ ap (offsetOf ss) zero-left ∙ none .1);
         }
+
+-- with all words sent, none of a first sample's are
+pub offset-all : (ss : List Sample) (n : ℕ) → n ≡ totalOf ss → offsetOf ss n ≡ 0
+unfolding totalOf offsetOf
+offset-all [] n e = e
+offset-all (s ∷ ss) n e = held-past s ss n (omega arith) .1 ∙ offset-all ss (n - lengthOf s) (omega arith)
+
+-- the held samples are among those taken
+pub sixteen-held : (ss : List Sample) (n : ℕ) → Sixteen ss → Sixteen (heldOf ss n)
+unfolding heldOf
+sixteen-held [] n h = tt
+sixteen-held (s ∷ ss) n h = go (leb (lengthOf s) n) (sixteen-held ss (n - lengthOf s) (h .1))
+  where
+    go : (b : Bool) → Sixteen (heldOf ss (n - lengthOf s)) → Sixteen (cond b (heldOf ss (n - lengthOf s)) (s ∷ ss))
+    go true k = k
+    go false k = h

@@ -1,2 +1,9 @@
 -- The laws and the theorems of demand 3.
+pub mod Agrees
+pub mod CountLaws
 pub mod HeldLaws
+pub mod HoldsLaws
+pub mod Steps
+pub mod StreamLaws
+pub mod Theorems
+pub mod Triggers

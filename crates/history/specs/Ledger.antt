@@ -66,7 +66,7 @@ resetAt clock =
       taken = [];
       sent = 0;
       errors = record { lost = 0; waits = 0; flagfull = false; flagbusy = false; mark = false };
-      events = replicate 16 0
+      events = replicate 16 0;
     }
 
 -- a ledger with another part
@@ -130,7 +130,7 @@ sampleIn resource line word l =
       stamp = l .clock % 2 ^ 40;
       source = getD (l .sources) line 0;
       header = headerOf line resource (l .errors .mark);
-      counters = cond resource (map (λ n. n % 2 ^ 32) (l .events)) (replicate 16 0)
+      counters = cond resource (map (λ n. n % 2 ^ 32) (l .events)) (replicate 16 0);
     }
 
 -- one trigger more that was lost, or told to wait; the lost mark goes with a taken sample
@@ -170,7 +170,7 @@ written Csr word lines l =
       sampling = pair (bit word 0) (bit word 1) (s .sampling);
       writewait = pair (bit word 2) (bit word 3) (s .writewait);
       readwait = pair (bit word 4) (bit word 5) (s .readwait);
-      filter = s .filter
+      filter = s .filter;
     })
     l
 written Timestamp word lines l = l

@@ -37,3 +37,12 @@ isFull held = leb 8 (length held)
 
 abbrev pub isBlocked : Bool → List Sample → Bool
 isBlocked resource held = cond resource (anyHeld held) false
+
+-- how many of the samples are Trace, and how many Resource samples
+unfoldable pub tracesOf : List Sample → ℕ
+tracesOf [] = 0
+tracesOf (s ∷ ss) = cond (resource (s .header)) 0 1 + tracesOf ss
+
+unfoldable pub resourcesOf : List Sample → ℕ
+resourcesOf [] = 0
+resourcesOf (s ∷ ss) = cond (resource (s .header)) 1 0 + resourcesOf ss

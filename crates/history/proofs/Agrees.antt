@@ -1,0 +1,82 @@
+-- The relation between a ledger and a chip's record: every part of the record is a function of the ledger, but for the queue and the
+-- shadows, which hold what the ledger says. Assumes nothing.
+use Prim.Native.Nat.{ℕ, zero, suc, _+_, _-_, _%_, _^_, _≤_, _<_}
+use native.Mathlib.Nat.{mod-lt, zero-lt-suc, lt-irrefl, suc-ne-zero}
+use native.Mathlib.Omega.{arith}
+use mathlib.Core.Path.{_≡_, refl, sym, ap, ap₂, _∙_, subst}
+use mathlib.Core.Bool.{Bool, true, false, cond, _&&_, _||_}
+use mathlib.Core.List.{List, [], _∷_, _++_, map}
+use lib.Dec.{ltb}
+use lib.ListN.{length, replicate}
+use lib.Pow.{pow-pos}
+use borrow.Author.Tests.{lt-ltb}
+use Rattle.counters.specs.declared.switches.Switches.{Switches}
+use Rattle.queue.specs.Queue.{insideQueue}
+use Rattle.queue.specs.declared.queue.Queue.{Queue}
+use Rattle.chip.specs.Chip.{guarded, inside}
+use Rattle.chip.specs.Reply.{replyNumber}
+use Rattle.chip.specs.declared.chip.Answer.{Answer}
+use Rattle.chip.specs.declared.chip.Chip.{Chip}
+use Rattle.chip.specs.declared.control.Control.{Control}
+use Rattle.chip.proofs.ChipLaws.{guard-in}
+use Rattle.history.specs.Ledger.{Ledger, Said}
+use Rattle.history.proofs.CountLaws.{wrapped}
+use Rattle.history.proofs.HeldLaws.{Sixteen}
+use Rattle.history.proofs.HoldsLaws.{Holds, holds-inside}
+
+abbrev pub controlOf : Ledger → Control
+controlOf l =
+    record {
+      wait = wrapped (l .errors .waits);
+      overrun = wrapped (l .errors .lost);
+      filter = l .settings .filter;
+      sampling = l .settings .sampling;
+      writewait = l .settings .writewait;
+      readwait = l .settings .readwait;
+      flagfull = l .errors .flagfull;
+      flagbusy = l .errors .flagbusy;
+      lost = l .errors .mark;
+    }
+
+abbrev pub switchesOf : Ledger → Switches
+switchesOf l = record { enabled = l .select .enabled; low = l .select .low; high = l .select .high; phase = l .ticks % 10 }
+
+-- the record that a ledger leaves, with a queue and shadows
+abbrev pub chipFor : Ledger → Queue → List ℕ → Chip
+chipFor l q sh =
+    record {
+      stamp = l .clock % 2 ^ 56;
+      queue = q;
+      bank = record { values = map wrapped (l .events); shadows = sh };
+      sources = l .sources;
+      control = controlOf l;
+      switches = switchesOf l;
+    }
+
+-- what is known of the queue and the shadows
+pub record Good (l : Ledger) (q : Queue) (sh : List ℕ) : Type 0 where
+  pub holds : Holds (l .taken) (l .sent) sh q
+  pub sixteen : Sixteen (l .taken)
+  pub events : length (l .events) ≡ 16
+
+pub record Agrees (l : Ledger) (c : Chip) : Type 0 where
+  pub queue : Queue
+  pub shadows : List ℕ
+  pub is : c ≡ chipFor l queue shadows
+  pub good : Good l queue shadows
+
+-- an answer that leaves a record for this ledger and gives this reply
+pub record Kept (l : Ledger) (s : Said) (a : Answer) : Type 0 where
+  pub agrees : Agrees l (a .chip)
+  pub number : replyNumber (a .reply) ≡ s .number
+  pub value : a .value ≡ s .value
+
+-- such a record is inside its bounds, so no operation replies 15
+pub for-inside : (l : Ledger) (q : Queue) (sh : List ℕ) → Good l q sh → inside (chipFor l q sh) ≡ true
+for-inside l q sh g =
+    ap₂ (λ (a b : Bool). a && b) (holds-inside (l .taken) (l .sent) sh q (g .holds))
+    (ap₂ (λ (a b : Bool). a && b) (lt-ltb (l .ticks % 10) 10 (mod-lt (l .ticks) (zero-lt-suc 9)))
+    (lt-ltb (l .clock % 2 ^ 56) (2 ^ 56) (mod-lt (l .clock) (pow-pos 56))))
+
+pub kept-guarded : (l : Ledger) (q : Queue) (sh : List ℕ) (l′ : Ledger) (s : Said) (a : Answer) → Good l q sh → Kept l′ s a → Kept l′ s (guarded (chipFor l q sh) a)
+kept-guarded l q sh l′ s a g k = subst (Kept l′ s) (guard-in (chipFor l q sh) a (for-inside l q sh g)) k

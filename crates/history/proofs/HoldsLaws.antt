@@ -1,0 +1,209 @@
+-- The queue and the ledger's stream: the places hold the samples that the list says are held, and the words go out in order.
+-- Assumes nothing.
+use Prim.Native.Nat.{ℕ, zero, suc, _+_, _-_, _≤_, _<_, min}
+use native.Mathlib.Nat.{not-suc-le-zero, suc-ne-zero, lt-of-lt-of-le, le-of-lt, lt-irrefl, add-zero}
+use native.Mathlib.Numerals.{add-one}
+use native.Mathlib.Omega.{arith}
+use mathlib.Core.Path.{_≡_, refl, sym, ap, ap₂, _∙_, subst}
+use mathlib.Core.Bool.{Bool, true, false, cond, _&&_, _||_, false≢true}
+use mathlib.Core.List.{List, [], _∷_, _++_, map, map-append}
+use lib.Dec.{leb, ltb, eqb}
+use lib.ListN.{length, take, drop, getD, set, replicate, length-append, length-map, length-set, length-drop}
+use lib.Seq.{take-suc-set, length-take-le, take-append-le, drop-cons, getD-append-add, getD-drop}
+use lib.ListN.{List·getD-append}
+use borrow.Author.Tests.{le-leb, lt-ltb, le-ltb, eq-eqb, ltb-true, ltb-false, eqb-true, eqb-false}
+use Rattle.samples.specs.Layout.{firstChip, resource, sampleLength, sampleWords}
+use Rattle.samples.specs.declared.sample.Sample.{Sample}
+use Rattle.samples.proofs.SampleLaws.{sample-length}
+use Rattle.queue.specs.Queue.{advanced, anyResource, busy, emptyQueue, firstCount, firstHeld, full, heldSample, insideQueue, nextWord, pushed, shifted, zeroHeld}
+use Rattle.queue.specs.declared.queue.Held.{Held}
+use Rattle.queue.specs.declared.queue.Queue.{Queue}
+use Rattle.history.specs.Stream.{anyHeld, heldOf, isFull, lengthOf, totalOf, wordsOfAll}
+use Rattle.history.proofs.HeldLaws.{Next, Sixteen, drop-held, held-none, held-push, next-word, offset-all, offsetOf, sixteen-held, total-more}
+
+-- the queue holds what the list says
+pub record Holds (taken : List Sample) (n : ℕ) (sh : List ℕ) (q : Queue) : Type 0 where
+  pub eight : length (q .places) ≡ 8
+  pub few : q .held ≤ 8
+  pub same : map (heldSample sh) (take (q .held) (q .places)) ≡ heldOf taken n
+  pub place : q .sent ≡ offsetOf taken n
+  pub enough : n ≤ totalOf taken
+
+pub holds-empty : (sh : List ℕ) → Holds [] 0 sh emptyQueue
+unfolding heldOf offsetOf totalOf
+holds-empty sh = record { eight = refl; few = omega arith; same = refl; place = refl; enough = omega arith }
+
+-- the first of some places
+first-place : (hs : List Held) (k : ℕ) (sh : List ℕ) (s : Sample) (ss : List Sample) → map (heldSample sh) (take k hs) ≡ s ∷ ss → heldSample sh (getD hs 0 zeroHeld) ≡ s
+first-place hs zero sh s ss e = absurd (nil-cons e)
+  where
+    nil-cons : _≡_ {A = List Sample} [] (s ∷ ss) → ⊥
+    nil-cons p = suc-ne-zero _ (sym (ap length p))
+first-place [] (suc k) sh s ss e = absurd (suc-ne-zero _ (sym (ap length e)))
+first-place (h ∷ hs) (suc k) sh s ss e = ap (λ (l : List Sample). getD l 0 s) e
+
+-- and the others
+other-places : (hs : List Held) (k : ℕ) (sh : List ℕ) (s : Sample) (ss : List Sample) → k ≤ length hs → map (heldSample sh) (take k hs) ≡ s ∷ ss → map (heldSample sh) (take (k - 1) (drop 1 hs ++ (zeroHeld ∷ []))) ≡ ss
+other-places hs zero sh s ss h e = absurd (suc-ne-zero _ (sym (ap length e)))
+other-places [] (suc k) sh s ss h e = absurd (not-suc-le-zero h)
+other-places (x ∷ hs) (suc k) sh s ss h e =
+    let less : suc k - 1 ≡ k = omega arith in
+    ap (λ (n : ℕ). map (heldSample sh) (take n (hs ++ (zeroHeld ∷ [])))) less
+    ∙ ap (map (heldSample sh)) (take-append-le k hs (zeroHeld ∷ []) (omega arith))
+    ∙ ap (drop 1) e
+
+-- a sample keeps its place's header, so whether a Resource sample is held is the same on both sides
+any-same : (sh : List ℕ) (hs : List Held) → anyResource hs ≡ anyHeld (map (heldSample sh) hs)
+unfolding anyResource anyHeld
+any-same sh [] = refl
+any-same sh (h ∷ hs) = ap (λ (b : Bool). resource (h .header) || b) (any-same sh hs)
+
+-- where no Resource sample is held, the shadows don't matter
+shadows-free : (sh sh′ : List ℕ) (hs : List Held) → anyResource hs ≡ false → map (heldSample sh) hs ≡ map (heldSample sh′) hs
+unfolding anyResource
+shadows-free sh sh′ [] e = refl
+shadows-free sh sh′ (h ∷ hs) e = go (resource (h .header)) refl e (shadows-free sh sh′ hs)
+  where
+    go : (b : Bool) → resource (h .header) ≡ b → (b || anyResource hs) ≡ false → (anyResource hs ≡ false → map (heldSample sh) hs ≡ map (heldSample sh′) hs) → map (heldSample sh) (h ∷ hs) ≡ map (heldSample sh′) (h ∷ hs)
+    go true r p ih = absurd (false≢true (sym p))
+    go false r p ih =
+        let none : (l : List ℕ) → cond (resource (h .header)) l (replicate 16 0) ≡ replicate 16 0 = λ l. ap (λ (b : Bool). cond b l (replicate 16 0)) r in
+        ap₂ (λ (s : Sample) (l : List Sample). s ∷ l)
+        (λ i. record { user = h .user; stamp = h .stamp; source = h .source; header = h .header; counters = (none sh ∙ sym (none sh′)) i })
+        (ih p)
+
+module _ (taken : List Sample) (n : ℕ) (sh : List ℕ) (q : Queue) (holds : Holds taken n sh q) where
+  pub held-count : length (heldOf taken n) ≡ q .held
+  held-count =
+      ap length (sym (holds .same)) ∙ length-map (take (q .held) (q .places)) (heldSample sh)
+      ∙ length-take-le (q .held) (q .places) (subst (λ (k : ℕ). q .held ≤ k) (sym (holds .eight)) (holds .few))
+
+  pub holds-full : full q ≡ isFull (heldOf taken n)
+  holds-full = ap (leb 8) (sym held-count)
+
+  pub holds-busy : busy q ≡ anyHeld (heldOf taken n)
+  holds-busy = any-same sh (take (q .held) (q .places)) ∙ ap anyHeld (holds .same)
+
+  -- nothing held is nothing left
+  pub holds-none : q .held ≡ 0 → totalOf taken - n ≡ 0
+  holds-none e = go (ltb n (totalOf taken)) refl
+    where
+      go : (b : Bool) → ltb n (totalOf taken) ≡ b → totalOf taken - n ≡ 0
+      go true t =
+          let x : Next taken n = next-word taken n (ltb-true n (totalOf taken) t) in
+          absurd (suc-ne-zero _ (sym (ap length (x .is)) ∙ held-count ∙ e))
+      go false t = omega (arith, ltb-false n (totalOf taken) t)
+
+  pub holds-some : (q .held ≡ 0 → ⊥) → n < totalOf taken
+  holds-some f = go (ltb n (totalOf taken)) refl
+    where
+      go : (b : Bool) → ltb n (totalOf taken) ≡ b → n < totalOf taken
+      go true t = ltb-true n (totalOf taken) t
+      go false t = absurd (f (sym held-count ∙ ap length (held-none taken n (ltb-false n (totalOf taken) t))))
+
+  -- the first place is the first held sample
+  first-is : (x : Next taken n) → heldSample sh (firstHeld q) ≡ x .first
+  first-is x = first-place (q .places) (q .held) sh (x .first) (x .rest) (holds .same ∙ x .is)
+
+  first-length : (x : Next taken n) → firstCount q ≡ lengthOf (x .first)
+  first-length x = ap lengthOf (first-is x)
+
+  -- so the queue's counts are inside their bounds
+  pub holds-inside : insideQueue q ≡ true
+  holds-inside = go (eqb (q .held) 0) refl
+    where
+      go : (b : Bool) → eqb (q .held) 0 ≡ b → (leb (q .held) 8 && cond (eqb (q .held) 0) (eqb (q .sent) 0) (ltb (q .sent) (firstCount q))) ≡ true
+      go true t =
+          let start : q .sent ≡ 0 = holds .place ∙ offset-all taken n (omega (arith, holds .enough, holds-none (eqb-true (q .held) 0 t))) in
+          ap₂ (λ (a b : Bool). a && b) (le-leb (q .held) 8 (holds .few))
+          (ap (λ (b : Bool). cond b (eqb (q .sent) 0) (ltb (q .sent) (firstCount q))) t ∙ eq-eqb (q .sent) 0 start)
+      go false t =
+          let x : Next taken n = next-word taken n (holds-some (eqb-false (q .held) 0 t)) in
+          let some : q .sent < firstCount q =
+          subst (λ (k : ℕ). k < firstCount q) (sym (holds .place)) (subst (λ (k : ℕ). offsetOf taken n < k) (sym (first-length x)) (x .unsent)) in
+          ap₂ (λ (a b : Bool). a && b) (le-leb (q .held) 8 (holds .few))
+          (ap (λ (b : Bool). cond b (eqb (q .sent) 0) (ltb (q .sent) (firstCount q))) t ∙ lt-ltb (q .sent) (firstCount q) some)
+
+  -- ---- a word is sent
+
+  module _ (sixteen : Sixteen taken) (some : q .held ≡ 0 → ⊥) where
+    unsent : Next taken n
+    unsent = next-word taken n (holds-some some)
+
+    -- it is the next of all the words
+    pub next-is : nextWord sh q ≡ getD (wordsOfAll taken) n 0
+    unfolding wordsOfAll
+    next-is =
+        let x : Next taken n = unsent in
+        let o : ℕ = offsetOf taken n in
+        let words : List ℕ = sampleWords firstChip (x .first) in
+        let long : length words ≡ lengthOf (x .first) = sample-length firstChip (x .first) (subst Sixteen (x .is) (sixteen-held taken n sixteen) .0) in
+        ap₂ (λ (s : Sample) (k : ℕ). getD (sampleWords firstChip s) k 0) (first-is x) (holds .place)
+        ∙ sym (List·getD-append words (wordsOfAll (x .rest)) 0 o (subst (λ (k : ℕ). o < k) (sym long) (x .unsent)))
+        ∙ ap (λ (l : List Sample). getD (wordsOfAll l) o 0) (sym (x .is))
+        ∙ ap (λ (k : ℕ). getD (wordsOfAll (heldOf taken n)) k 0) (sym (add-zero o))
+        ∙ sym (getD-drop o (wordsOfAll (heldOf taken n)) 0 0)
+        ∙ ap (λ (l : List ℕ). getD l 0 0) (sym (drop-held taken n sixteen))
+        ∙ getD-drop n (wordsOfAll taken) 0 0
+        ∙ ap (λ (k : ℕ). getD (wordsOfAll taken) k 0) (add-zero n)
+
+    -- and the queue then holds what one word more leaves
+    pub holds-advanced : Holds taken (n + 1) sh (advanced q)
+    holds-advanced = go (ltb (q .sent + 1) (firstCount q)) refl
+      where
+        go : (b : Bool) → ltb (q .sent + 1) (firstCount q) ≡ b → Holds taken (n + 1) sh (cond b (record { places = q .places; held = q .held; sent = q .sent + 1 }) (shifted q))
+        go true t =
+            let x : Next taken n = unsent in
+            let stay : offsetOf taken n + 1 < lengthOf (x .first) = subst (λ (k : ℕ). offsetOf taken n + 1 < k) (first-length x) (subst (λ (k : ℕ). k + 1 < firstCount q) (holds .place) (ltb-true (q .sent + 1) (firstCount q) t)) in
+            let y = x .stays stay in
+            record {
+              eight = holds .eight;
+              few = holds .few;
+              same = holds .same ∙ x .is ∙ sym (y .0);
+              place = ap (λ (k : ℕ). k + 1) (holds .place) ∙ sym (y .1);
+              enough = omega (arith, holds-some some);
+            }
+        go false t =
+            let x : Next taken n = unsent in
+            let end : lengthOf (x .first) ≤ offsetOf taken n + 1 = subst (λ (k : ℕ). k ≤ offsetOf taken n + 1) (first-length x) (subst (λ (k : ℕ). firstCount q ≤ k + 1) (holds .place) (ltb-false (q .sent + 1) (firstCount q) t)) in
+            let y = x .ends end in
+            let long : length (drop 1 (q .places)) ≡ 7 = length-drop 1 (q .places) ∙ ap (λ (k : ℕ). k - 1) (holds .eight) in
+            record {
+              eight = length-append (drop 1 (q .places)) (zeroHeld ∷ []) ∙ ap (λ (k : ℕ). k + 1) long;
+              few = omega (arith, holds .few);
+              same = other-places (q .places) (q .held) sh (x .first) (x .rest) (subst (λ (k : ℕ). q .held ≤ k) (sym (holds .eight)) (holds .few)) (holds .same ∙ x .is) ∙ sym (y .0);
+              place = sym (y .1);
+              enough = omega (arith, holds-some some);
+            }
+
+  -- ---- a sample is taken
+
+  pub holds-pushed : (h : Held) → q .held < 8 → Holds (taken ++ (heldSample sh h ∷ [])) n sh (pushed h q)
+  holds-pushed h room =
+      let more = held-push taken (heldSample sh h) n (holds .enough) in
+      subst (Holds (taken ++ (heldSample sh h ∷ [])) n sh)
+      (ap (λ (b : Bool). cond b (record { places = set (q .places) (q .held) h; held = q .held + 1; sent = q .sent }) q) (sym (lt-ltb (q .held) 8 room)))
+      (record {
+        eight = length-set (q .places) (q .held) h ∙ holds .eight;
+        few = omega arith;
+        same =
+            ap (λ (k : ℕ). map (heldSample sh) (take k (set (q .places) (q .held) h))) (add-one (q .held))
+            ∙ ap (map (heldSample sh)) (take-suc-set (q .places) (q .held) h (subst (λ (k : ℕ). q .held < k) (sym (holds .eight)) room))
+            ∙ map-append (heldSample sh) (take (q .held) (q .places)) (h ∷ [])
+            ∙ ap (λ (l : List Sample). l ++ (heldSample sh h ∷ [])) (holds .same)
+            ∙ sym (more .0);
+        place = holds .place ∙ sym (more .1);
+        enough = omega (arith, holds .enough, total-more taken (heldSample sh h));
+      })
+
+  -- ---- the shadows are written while they are free
+
+  pub holds-copied : (sh′ : List ℕ) → busy q ≡ false → Holds taken n sh′ q
+  holds-copied sh′ free =
+      record {
+        eight = holds .eight;
+        few = holds .few;
+        same = sym (shadows-free sh sh′ (take (q .held) (q .places)) free) ∙ holds .same;
+        place = holds .place;
+        enough = holds .enough;
+      }
