@@ -1,2 +1,11 @@
 -- The laws that belong to no one function.
+pub mod AddressLaws
+pub mod Bounds
 pub mod ChipLaws
+pub mod Refusals
+pub mod Replies
+pub mod Resets
+pub mod Sends
+pub mod Ticks
+pub mod WidthLaws
+pub mod Words

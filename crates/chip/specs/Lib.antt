@@ -3,4 +3,8 @@ pub mod Control
 pub mod Fate
 pub mod Operation
 pub mod Place
+pub mod Repeat
 pub mod Reply
+pub mod Rows
+pub mod Sent
+pub mod Shape

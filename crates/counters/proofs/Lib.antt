@@ -1,3 +1,4 @@
 -- The laws that belong to no one function.
 pub mod BitLaws
 pub mod EachLaws
+pub mod TickLaws

@@ -1,10 +1,10 @@
 -- The law of the low bytes of a number, once, over how many bytes there are: their number, each byte, that each is below 256,
 -- the number they give back, and the bytes that the number gives back. Assumes nothing.
 use Prim.Native.Nat.{ℕ, zero, suc, _+_, _*_, _/_, _%_, _^_, _≤_, _<_}
-use native.Mathlib.Nat.{mod-lt, mod-one, mod-eq-of-lt, zero-lt-suc, pow-suc, pow-succ', div-div-eq-div-mul, div-eq-of-lt, div-one, le-of-suc-le-suc, not-suc-le-zero, one-le-pow, pow-le-pow-right, lt-of-lt-of-le, add-mul-div-left, add-mul-mod-self-left, suc-mul}
+use native.Mathlib.Nat.{mod-lt, mod-one, mod-eq-of-lt, zero-lt-suc, pow-suc, pow-succ', div-div-eq-div-mul, div-eq-of-lt, div-one, le-of-suc-le-suc, not-suc-le-zero, one-le-pow, pow-le-pow-right, lt-of-lt-of-le, add-mul-div-left, add-mul-mod-self-left, suc-mul, mul-add, mul-assoc, add-assoc}
 use native.Mathlib.Omega.{arith}
 use mathlib.Core.Path.{_≡_, refl, sym, ap, ap₂, _∙_, subst}
-use mathlib.Core.List.{List, [], _∷_}
+use mathlib.Core.List.{List, [], _∷_, _++_}
 use lib.Arith.{mod-mul}
 use lib.Pow.{pow-add}
 use lib.ListN.{length, getD}
@@ -70,3 +70,12 @@ number-below [] h = zero-lt-suc 0
 number-below (b ∷ bs) h =
     let ih : number bs < 256 ^ length bs = number-below bs (λ i. h (suc i)) in
     rw pow-suc (omega (arith, h 0))
+
+-- the number of bytes and then more bytes
+pub number-append : (a b : List ℕ) → number (a ++ b) ≡ number a + 256 ^ length a * number b
+unfolding number
+number-append [] b = omega arith
+number-append (x ∷ a) b =
+    ap (λ (n : ℕ). x + 256 * n) (number-append a b)
+    ∙ ap (λ (n : ℕ). x + n) (mul-add 256 (number a) (256 ^ length a * number b) ∙ ap (λ (n : ℕ). 256 * number a + n) (sym (mul-assoc 256 (256 ^ length a) (number b)) ∙ ap (λ (n : ℕ). n * number b) (sym (pow-succ' 256 (length a)))))
+    ∙ sym (add-assoc x (256 * number a) (256 ^ suc (length a) * number b))

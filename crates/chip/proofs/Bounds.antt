@@ -1,0 +1,276 @@
+-- A fresh chip is inside the bounds, and every operation keeps them: few touch the queue, the phase or the Timestamp, and those have laws
+-- of their own. So no chain of operations from a fresh chip meets reply 15. Assumes nothing.
+use Prim.Native.Nat.{ℕ, zero, suc, _+_, _%_, _^_, _<_}
+use native.Mathlib.Nat.{mod-lt, zero-lt-suc}
+use native.Mathlib.Omega.{arith}
+use mathlib.Core.Path.{_≡_, refl, ap, _∙_}
+use mathlib.Core.Bool.{Bool, true, false, cond, not, _&&_, and-false}
+use lib.Dec.{ltb, eqb}
+use lib.ListN.{getD, length}
+use borrow.Author.Tests.{eqb-false, lt-ltb, ltb-true}
+use Rattle.samples.specs.Layout.{counterWidths}
+use Rattle.samples.specs.Write.{within}
+use Rattle.samples.proofs.Gather.{both-left, both-right}
+use Rattle.counters.specs.Bank.{bit, bumped, cleared, copied, counting, grown}
+use Rattle.counters.specs.Due.{due, signalled, slowEvents, ticked}
+use Rattle.counters.specs.declared.bank.Bank.{Bank}
+use Rattle.counters.specs.declared.switches.Kind.the-variants.{Slow, External, Software, Node}
+use Rattle.queue.specs.Queue.{advanced, busy, insideQueue, nextWord, pushed, sendMany, sendQueue}
+use Rattle.queue.specs.declared.queue.Held.{Held}
+use Rattle.queue.specs.declared.queue.Queue.{Queue}
+use Rattle.queue.proofs.BoundLaws.{advance-bounds, advance-places, push-bounds, push-places, send-bounds, send-places}
+use Rattle.chip.specs.Chip.{afterTicks, done, externalEvents, fateOf, fresh, inside, lineOf, nodeTicks, oneLine, read, readAt, readCounter, refuse, sampleNow, send, sendInto, sendNow, softReset, takeSample, timestampTicks, trigger, triggerBy, withBank, withControl, withQueue, write, writeAt}
+use Rattle.chip.specs.Control.{waited}
+use Rattle.chip.specs.Fate.{Fate, isOff, isFiltered, isLost, isTold, isTaken}
+use Rattle.chip.specs.Operation.{Operation, opReset, opWrite, opRead, opTicks, opNodes, opEvents, opSend, opFill, step}
+use Rattle.chip.specs.Place.{placeOf}
+use Rattle.chip.specs.Repeat.{repeat}
+use Rattle.chip.specs.Reply.{replyNumber}
+use Rattle.chip.specs.Rows.{checked}
+use Rattle.chip.specs.Shape.{Shaped}
+use Rattle.chip.specs.declared.chip.Answer.{Answer}
+use Rattle.chip.specs.declared.chip.Chip.{Chip}
+use Rattle.chip.specs.declared.control.Control.{Control}
+use Rattle.chip.specs.declared.place.Place.{Place}
+use Rattle.chip.specs.declared.place.Place.the-variants.{Beyond, Nowhere, Reset, Csr, Timestamp, Filter, Waits, Overruns, Mux, Clear, Enable, Disable, Source, Counter, Trace, Resource}
+use Rattle.chip.specs.declared.reply.Reply.the-variants.{Lines, NoWord, Wait, Busy, Outside}
+use Rattle.chip.proofs.Replies.{reply-15}
+use Rattle.chip.proofs.WidthLaws.{within-each, within-set}
+
+-- ---- what the bounds say of each part
+
+module _ (c : Chip) (h : inside c ≡ true) where
+  pub inside-queue : insideQueue (c .queue) ≡ true
+  inside-queue = both-left _ _ h
+
+  pub inside-phase : c .switches .phase < 10
+  inside-phase = ltb-true _ _ (both-left _ _ (both-right (insideQueue (c .queue)) _ h))
+
+  pub inside-stamp : c .stamp < 2 ^ 56
+  inside-stamp = ltb-true _ _ (both-right (ltb (c .switches .phase) 10) _ (both-right (insideQueue (c .queue)) _ h))
+
+pub inside-by : (c : Chip) → insideQueue (c .queue) ≡ true → c .switches .phase < 10 → c .stamp < 2 ^ 56 → inside c ≡ true
+inside-by c q p s = λ i. q i && (lt-ltb (c .switches .phase) 10 p i && lt-ltb (c .stamp) (2 ^ 56) s i)
+
+-- another queue inside its bounds
+inside-queued : (c : Chip) (q : Queue) → inside c ≡ true → insideQueue q ≡ true → inside (withQueue q c) ≡ true
+inside-queued c q h k = inside-by (withQueue q c) k (inside-phase c h) (inside-stamp c h)
+
+-- a sample taken
+take-inside : (r : Bool) (line word : ℕ) (c : Chip) → inside c ≡ true → inside (takeSample r line word c) ≡ true
+take-inside r line word c h =
+    let sample : Held = sampleNow r line word c in
+    inside-queued c (pushed sample (c .queue)) h (push-bounds sample (c .queue) (inside-queue c h))
+
+-- ---- "a fresh chip is inside them"
+
+pub fresh-inside : inside fresh ≡ true
+fresh-inside = refl
+
+pub fresh-shaped : Shaped fresh
+unfolding within
+fresh-shaped = record { places = refl; sources = refl; values = refl; shadows = refl }
+
+-- ---- "and every operation keeps them"
+
+-- a statement on the next record, where 15 comes first
+guarded-keeps : (P : Chip → Type 0) (b : Bool) (c : Chip) (a : Answer) → P c → P (a .chip) → P (cond b a (refuse Outside c) .chip)
+guarded-keeps P true c a p q = q
+guarded-keeps P false c a p q = p
+
+-- a trigger keeps what a lost one, one told to wait and a taken one keep
+trigger-keeps : (P : Chip → Type 0) (r o : Bool) (f : Fate) (line word : ℕ) (c : Chip) → P c → ((k : Control) → P (withControl k c)) → P (takeSample r line word c) → P (cond o (triggerBy f r line word c) (refuse Lines c) .chip)
+unfolding triggerBy
+trigger-keeps P r false f line word c p k t = p
+trigger-keeps P r true isOff line word c p k t = p
+trigger-keeps P r true isFiltered line word c p k t = p
+trigger-keeps P r true isLost line word c p k t = k _
+trigger-keeps P r true isTold line word c p k t = k _
+trigger-keeps P r true isTaken line word c p k t = t
+
+-- a read keeps what a record with another Wait Counter and one with a copy in the shadows keep
+read-keeps : (P : Chip → Type 0) (p : Place) (c : Chip) → P c → ((k : Control) → P (withControl k c)) → P (withBank (copied (c .bank)) c) → P (readAt p c .chip)
+unfolding readAt readCounter
+read-keeps P Beyond c h k s = h
+read-keeps P Nowhere c h k s = h
+read-keeps P Reset c h k s = h
+read-keeps P Csr c h k s = h
+read-keeps P Timestamp c h k s = h
+read-keeps P Filter c h k s = h
+read-keeps P Waits c h k s = h
+read-keeps P Overruns c h k s = h
+read-keeps P Mux c h k s = h
+read-keeps P Clear c h k s = h
+read-keeps P Enable c h k s = h
+read-keeps P Disable c h k s = h
+read-keeps P (Source i) c h k s = h
+read-keeps P (Counter i) c h k s = go (busy (c .queue)) (c .control .readwait)
+  where
+    go : (b w : Bool) → P (cond b (cond w (refuse Wait (withControl (waited (c .control)) c)) (record { chip = c; value = 2 ^ 63; reply = Busy })) (done (getD (c .bank .values) i 0) (withBank (copied (c .bank)) c)) .chip)
+    go true true = k _
+    go true false = h
+    go false w = s
+read-keeps P (Trace level) c h k s = h
+read-keeps P (Resource level) c h k s = h
+
+-- the bounds
+write-inside : (p : Place) (word lines : ℕ) (c : Chip) → inside c ≡ true → inside (writeAt p word lines c .chip) ≡ true
+unfolding writeAt trigger
+write-inside Beyond word lines c h = h
+write-inside Nowhere word lines c h = h
+write-inside Reset word lines c h = inside-by (softReset c) refl (omega arith) (inside-stamp c h)
+write-inside Csr word lines c h = h
+write-inside Timestamp word lines c h = h
+write-inside Filter word lines c h = h
+write-inside Waits word lines c h = h
+write-inside Overruns word lines c h = h
+write-inside Mux word lines c h = h
+write-inside Clear word lines c h = h
+write-inside Enable word lines c h = h
+write-inside Disable word lines c h = h
+write-inside (Source i) word lines c h = h
+write-inside (Counter i) word lines c h = h
+write-inside (Trace level) word lines c h =
+    trigger-keeps (λ d. inside d ≡ true) false (oneLine lines) (fateOf false level c) (lineOf lines) word c h (λ k. h)
+    (take-inside false (lineOf lines) word c h)
+write-inside (Resource level) word lines c h =
+    trigger-keeps (λ d. inside d ≡ true) true (oneLine lines) (fateOf true level c) (lineOf lines) word c h (λ k. h)
+    (take-inside true (lineOf lines) word c h)
+
+pub keeps-inside : (op : Operation) (c : Chip) → inside c ≡ true → inside (step op c .chip) ≡ true
+unfolding write read timestampTicks nodeTicks externalEvents send sendInto sendMany
+keeps-inside opReset c h = refl
+keeps-inside (opWrite a word lines) c h =
+    guarded-keeps (λ d. inside d ≡ true) (inside c) c (writeAt (placeOf a) word lines c) h (write-inside (placeOf a) word lines c h)
+keeps-inside (opRead a) c h =
+    guarded-keeps (λ d. inside d ≡ true) (inside c) c (readAt (placeOf a) c) h (read-keeps (λ d. inside d ≡ true) (placeOf a) c h (λ k. h) h)
+keeps-inside (opTicks k) c h =
+    guarded-keeps (λ d. inside d ≡ true) (inside c) c (done 0 (afterTicks k c)) h
+    (inside-by (afterTicks k c) (inside-queue c h) (mod-lt (c .switches .phase + k) (zero-lt-suc 9)) (omega arith))
+keeps-inside (opNodes k) c h = guarded-keeps (λ d. inside d ≡ true) (inside c) c (done 0 (withBank (ticked Node k (c .switches) (c .bank)) c)) h h
+keeps-inside (opEvents mask) c h = guarded-keeps (λ d. inside d ≡ true) (inside c) c (done 0 (withBank (signalled mask (c .switches) (c .bank)) c)) h h
+keeps-inside opSend c h = guarded-keeps (λ d. inside d ≡ true) (inside c) c (sendNow c) h (go (eqb (c .queue .held) 0) refl)
+  where
+    go : (n : Bool) → eqb (c .queue .held) 0 ≡ n → inside (cond n (refuse NoWord c) (done (nextWord (c .bank .shadows) (c .queue)) (withQueue (advanced (c .queue)) c)) .chip) ≡ true
+    go true e = h
+    go false e = inside-queued c (advanced (c .queue)) h (advance-bounds (c .queue) (eqb-false (c .queue .held) 0 e) (inside-queue c h))
+keeps-inside (opFill room) c h =
+    guarded-keeps (λ d. inside d ≡ true) (inside c) c (done _ (withQueue (sendQueue room (c .queue)) c)) h
+    (inside-queued c (sendQueue room (c .queue)) h (send-bounds room (c .queue) (inside-queue c h)))
+
+-- the lengths and widths
+grow-below : (b : Bool) (v k : ℕ) → v < 256 ^ 4 → cond b (grown v k) v < 256 ^ 4
+grow-below true v k h = omega arith
+grow-below false v k h = h
+
+clear-below : (b : Bool) (v : ℕ) → v < 256 ^ 4 → cond b 0 v < 256 ^ 4
+clear-below true v h = omega arith
+clear-below false v h = h
+
+counting-in : (f : ℕ → Bool) (k : ℕ) (b : Bank) → within counterWidths (b .values) ≡ true → within counterWidths (counting f k b .values) ≡ true
+counting-in f k b e = within-each 4 16 (λ i v. cond (f i) (grown v k) v) 0 (b .values) (λ j v h. grow-below (f j) v k h) e
+
+fired-in : (t : Bool) (i : ℕ) (b : Bank) → within counterWidths (b .values) ≡ true → within counterWidths (cond t (bumped i b) b .values) ≡ true
+fired-in true i b e = within-set 4 16 (b .values) i (grown (getD (b .values) i 0) 1) e (omega arith)
+fired-in false i b e = e
+
+fired-shadows : (t : Bool) (i : ℕ) (b : Bank) → within counterWidths (b .shadows) ≡ true → within counterWidths (cond t (bumped i b) b .shadows) ≡ true
+fired-shadows true i b e = e
+fired-shadows false i b e = e
+
+-- what a record's other bank or queue has to be for its lists to stay as they are
+shaped-bank : (c : Chip) (b : Bank) → Shaped c → within counterWidths (b .values) ≡ true → within counterWidths (b .shadows) ≡ true → Shaped (withBank b c)
+shaped-bank c b s v w = record { places = s .places; sources = s .sources; values = v; shadows = w }
+
+shaped-queue : (c : Chip) (q : Queue) → Shaped c → length (q .places) ≡ 8 → Shaped (withQueue q c)
+shaped-queue c q s e = record { places = e; sources = s .sources; values = s .values; shadows = s .shadows }
+
+take-shaped : (r : Bool) (line word : ℕ) (c : Chip) → Shaped c → Shaped (takeSample r line word c)
+take-shaped true line word c s =
+    record {
+      places = push-places (sampleNow true line word c) (c .queue) (s .places);
+      sources = s .sources;
+      values = s .values;
+      shadows = s .values;
+    }
+take-shaped false line word c s =
+    record {
+      places = push-places (sampleNow false line word c) (c .queue) (s .places);
+      sources = s .sources;
+      values = s .values;
+      shadows = s .shadows;
+    }
+
+write-shaped : (p : Place) (word lines : ℕ) (c : Chip) → Shaped c → Shaped (writeAt p word lines c .chip)
+unfolding writeAt trigger
+write-shaped Beyond word lines c s = s
+write-shaped Nowhere word lines c s = s
+write-shaped Reset word lines c s = fresh-shaped
+write-shaped Csr word lines c s = s
+write-shaped Timestamp word lines c s = s
+write-shaped Filter word lines c s = s
+write-shaped Waits word lines c s = s
+write-shaped Overruns word lines c s = s
+write-shaped Mux word lines c s = s
+write-shaped Clear word lines c s =
+    shaped-bank c (cleared (word % 2 ^ 16) (c .bank)) s
+    (within-each 4 16 (λ i v. cond (bit (word % 2 ^ 16) i) 0 v) 0 (c .bank .values) (λ j v h. clear-below (bit (word % 2 ^ 16) j) v h) (s .values))
+    (s .shadows)
+write-shaped Enable word lines c s = s
+write-shaped Disable word lines c s = s
+write-shaped (Source i) word lines c s =
+    record {
+      places = s .places;
+      sources = within-set 4 8 (c .sources) i (word % 2 ^ 32) (s .sources) (omega arith);
+      values = s .values;
+      shadows = s .shadows;
+    }
+write-shaped (Counter i) word lines c s =
+    let due-now : Bool = due Software (c .switches) i in
+    shaped-bank c (cond due-now (bumped i (c .bank)) (c .bank)) s (fired-in due-now i (c .bank) (s .values)) (fired-shadows due-now i (c .bank) (s .shadows))
+write-shaped (Trace level) word lines c s =
+    trigger-keeps Shaped false (oneLine lines) (fateOf false level c) (lineOf lines) word c s (λ k. s) (take-shaped false (lineOf lines) word c s)
+write-shaped (Resource level) word lines c s =
+    trigger-keeps Shaped true (oneLine lines) (fateOf true level c) (lineOf lines) word c s (λ k. s) (take-shaped true (lineOf lines) word c s)
+
+counting-shaped : (f : ℕ → Bool) (k : ℕ) (c : Chip) → Shaped c → Shaped (withBank (counting f k (c .bank)) c)
+counting-shaped f k c s = shaped-bank c (counting f k (c .bank)) s (counting-in f k (c .bank) (s .values)) (s .shadows)
+
+pub keeps-shaped : (op : Operation) (c : Chip) → Shaped c → Shaped (step op c .chip)
+unfolding write read timestampTicks nodeTicks externalEvents send sendInto sendMany
+keeps-shaped opReset c s = fresh-shaped
+keeps-shaped (opWrite a word lines) c s =
+    guarded-keeps Shaped (inside c) c (writeAt (placeOf a) word lines c) s (write-shaped (placeOf a) word lines c s)
+keeps-shaped (opRead a) c s =
+    guarded-keeps Shaped (inside c) c (readAt (placeOf a) c) s
+    (read-keeps Shaped (placeOf a) c s (λ k. s) (shaped-bank c (copied (c .bank)) s (s .values) (s .values)))
+keeps-shaped (opTicks k) c s =
+    guarded-keeps Shaped (inside c) c (done 0 (afterTicks k c)) s (counting-shaped (due Slow (c .switches)) (slowEvents k (c .switches)) c s)
+keeps-shaped (opNodes k) c s =
+    guarded-keeps Shaped (inside c) c (done 0 (withBank (ticked Node k (c .switches) (c .bank)) c)) s (counting-shaped (due Node (c .switches)) k c s)
+keeps-shaped (opEvents mask) c s =
+    guarded-keeps Shaped (inside c) c (done 0 (withBank (signalled mask (c .switches) (c .bank)) c)) s
+    (counting-shaped (λ i. bit mask i && due External (c .switches) i) 1 c s)
+keeps-shaped opSend c s = guarded-keeps Shaped (inside c) c (sendNow c) s (go (eqb (c .queue .held) 0))
+  where
+    go : (n : Bool) → Shaped (cond n (refuse NoWord c) (done (nextWord (c .bank .shadows) (c .queue)) (withQueue (advanced (c .queue)) c)) .chip)
+    go true = s
+    go false = shaped-queue c (advanced (c .queue)) s (advance-places (c .queue) (s .places))
+keeps-shaped (opFill room) c s =
+    guarded-keeps Shaped (inside c) c (done _ (withQueue (sendQueue room (c .queue)) c)) s
+    (shaped-queue c (sendQueue room (c .queue)) s (send-places room (c .queue) (s .places)))
+
+-- so 15 is never replied on the way
+pub never-15 : (op : Operation) (c : Chip) → inside c ≡ true → eqb (replyNumber (step op c .reply)) 15 ≡ false
+never-15 op c h = reply-15 op c ∙ ap (λ (b : Bool). checked op && not b) h ∙ and-false (checked op)
+
+-- and so do operations repeated
+pub repeat-inside : (k : ℕ) (op : Operation) (c : Chip) → inside c ≡ true → inside (repeat k op c) ≡ true
+unfolding repeat
+repeat-inside zero op c h = h
+repeat-inside (suc k) op c h = repeat-inside k op (step op c .chip) (keeps-inside op c h)
+
+pub repeat-shaped : (k : ℕ) (op : Operation) (c : Chip) → Shaped c → Shaped (repeat k op c)
+unfolding repeat
+repeat-shaped zero op c s = s
+repeat-shaped (suc k) op c s = repeat-shaped k op (step op c .chip) (keeps-shaped op c s)

@@ -1,0 +1,235 @@
+-- Each reply number is given exactly in its row's case: by computation for each address up to 127 that is neither a trigger's nor a
+-- counter's, and by the definitions' own tests for the others. Assumes nothing.
+use Prim.Native.Nat.{ℕ, _-_, _%_, _^_, _≤_, _<_}
+use native.Mathlib.Omega.{arith}
+use mathlib.Core.Path.{_≡_, refl, sym, ap, _∙_}
+use mathlib.Core.Bool.{Bool, true, false, cond, not, _&&_, _||_}
+use mathlib.Core.List.{List, [], _∷_, map}
+use lib.Dec.{leb, ltb, eqb}
+use lib.ListN.{getD}
+use borrow.Author.Tests.{lt-ltb, lt-leb, ne-eqb, ltb-true, ltb-false}
+use Rattle.counters.specs.Bank.{copied}
+use Rattle.queue.specs.Queue.{busy}
+use Rattle.chip.specs.Chip.{done, externalEvents, inside, lacksRoom, lineOf, nodeTicks, oneLine, read, readAt, readCounter, refuse, send, sendInto, sentBuffer, timestampTicks, trigger, triggerBy, withBank, withControl, write, writeAt}
+use Rattle.chip.specs.Control.{waited}
+use Rattle.chip.specs.Fate.{fate}
+use Rattle.chip.specs.Operation.{Operation, opReset, opWrite, opRead, opTicks, opNodes, opEvents, opSend, opFill, step}
+use Rattle.chip.specs.Place.{placeOf, registerOf}
+use Rattle.chip.specs.Reply.{replyNumber}
+use Rattle.chip.specs.Rows.{counterAt, mapped, lacking, passes, readOnly, row0, row1, row2, row3, row4, row5, row6, row7, row8, row10, row11, row15, triggering, vacant, writeOnly}
+use Rattle.chip.specs.declared.chip.Answer.{Answer}
+use Rattle.chip.specs.declared.chip.Chip.{Chip}
+use Rattle.chip.specs.declared.place.Place.{Place}
+use Rattle.chip.specs.declared.place.Place.the-variants.{Trace, Resource}
+use Rattle.chip.specs.declared.reply.Reply.{Reply}
+use Rattle.chip.specs.declared.reply.Reply.the-variants.{Done, Lines, NoWord, Wait, Busy, Outside}
+use Rattle.chip.proofs.AddressLaws.{or-rest, place-beyond, place-counter, place-trigger, same, same-eq, upTo-at}
+
+-- ---- the rows by their tests
+
+-- all rows at once, the last by the others, and which of their numbers a reply has
+abbrev table : Bool → Bool → Bool → Bool → Bool → Bool → Bool → Bool → Bool → Bool → Bool → List Bool
+table x15 x1 x2 x3 x4 x5 x6 x7 x8 x10 x11 =
+    x15 ∷ x1 ∷ x2 ∷ x3 ∷ x4 ∷ x5 ∷ x6 ∷ x7 ∷ x8 ∷ x10 ∷ x11 ∷ not (x15 || (x1 || (x2 || (x3 || (x4 || (x5 || (x6 || (x7 || (x8 || (x10 || x11)))))))))) ∷ []
+
+abbrev rows : Operation → Chip → List Bool
+rows op c =
+    table (row15 op c) (row1 op c) (row2 op c) (row3 op c) (row4 op c) (row5 op c) (row6 op c) (row7 op c) (row8 op c) (row10 op c) (row11 op c)
+
+abbrev told : Reply → List Bool
+told r = map (λ n. eqb (replyNumber r) n) (15 ∷ 1 ∷ 2 ∷ 3 ∷ 4 ∷ 5 ∷ 6 ∷ 7 ∷ 8 ∷ 10 ∷ 11 ∷ 0 ∷ [])
+
+-- what the rows ask of an address
+abbrev tests : ℕ → List Bool
+tests a = ltb 127 a ∷ vacant a ∷ readOnly a ∷ writeOnly a ∷ triggering a ∷ counterAt a ∷ []
+
+-- the rows of a write and of a read, by the record's bounds, the address's tests, and what else they ask
+abbrev writeRows : Bool → List Bool → Bool → Bool → Bool → Bool → Bool → List Bool
+writeRows i t o s f l w =
+    let taken = getD t 4 false in
+    table (not i)
+    (i && getD t 0 false)
+    (i && getD t 1 false)
+    (i && getD t 2 false)
+    (i && (taken && not o))
+    (i && false)
+    (i && (taken && (o && not s)))
+    (i && (taken && (o && (s && not f))))
+    (i && (taken && (o && (s && (f && (l && not w))))))
+    (i && (taken && (o && (s && (f && (l && w)))) || false))
+    (i && false)
+
+abbrev readRows : Bool → List Bool → Bool → Bool → List Bool
+readRows i t b w =
+    table (not i)
+    (i && getD t 0 false)
+    (i && getD t 1 false)
+    (i && getD t 3 false)
+    (i && false)
+    (i && false)
+    (i && false)
+    (i && false)
+    (i && false)
+    (i && (getD t 5 false && (b && w)))
+    (i && (getD t 5 false && (b && not w)))
+
+-- an address above 127
+tests-beyond : (a : ℕ) → 127 < a → tests a ≡ true ∷ false ∷ false ∷ false ∷ false ∷ false ∷ []
+tests-beyond a h =
+    let other : (n : ℕ) → n ≤ 127 → eqb a n ≡ false = λ n p. ne-eqb a n (λ q. omega arith) in
+    let last : leb a 127 ≡ false = lt-leb a 127 h in
+    λ i. lt-ltb 127 a h i ∷ (last i && not (mapped a)) ∷ other 2 (omega arith) i ∷ (other 0 (omega arith) i || (other 10 (omega arith) i || (other 12 (omega arith) i || (last i && leb 96 a)))) ∷ (last i && leb 96 a) ∷ (lt-leb a 47 (omega arith) i && leb 32 a) ∷ []
+
+-- what is the same for every trigger, and for every counter
+tests-trigger : (a : ℕ) → a < 128 → triggering a ≡ true → tests a ≡ false ∷ false ∷ false ∷ true ∷ true ∷ false ∷ []
+tests-trigger a h e =
+    same-eq _ _ (or-rest (not (triggering a)) _ (upTo-at 128 (λ b. not (triggering b) || same (tests b) (false ∷ false ∷ false ∷ true ∷ true ∷ false ∷ [])) refl a h) (ap not e))
+
+tests-counter : (a : ℕ) → a < 128 → counterAt a ≡ true → tests a ≡ false ∷ false ∷ false ∷ false ∷ false ∷ true ∷ []
+tests-counter a h e =
+    same-eq _ _ (or-rest (not (counterAt a)) _ (upTo-at 128 (λ b. not (counterAt b) || same (tests b) (false ∷ false ∷ false ∷ false ∷ false ∷ true ∷ [])) refl a h) (ap not e))
+
+-- ---- each operation
+
+module _ (a word lines : ℕ) (c : Chip) where
+  written-trigger : (r o s f l w : Bool) → told (cond o (triggerBy (fate s f l w) r (lineOf lines) word c) (refuse Lines c) .reply) ≡ writeRows true (false ∷ false ∷ false ∷ true ∷ true ∷ false ∷ []) o s f l w
+  unfolding triggerBy
+  written-trigger r false s f l w = refl
+  written-trigger r true false f l w = refl
+  written-trigger r true true false l w = refl
+  written-trigger r true true true false w = refl
+  written-trigger r true true true true true = refl
+  written-trigger r true true true true false = refl
+
+  written : told (writeAt (placeOf a) word lines c .reply) ≡ writeRows true (tests a) (oneLine lines) (c .control .sampling) (passes c a) (lacking c a) (c .control .writewait)
+  unfolding writeAt trigger placeOf registerOf
+  written = go (ltb 127 a) refl (triggering a) refl
+    where
+      by : List Bool → List Bool
+      by t = writeRows true t (oneLine lines) (c .control .sampling) (passes c a) (lacking c a) (c .control .writewait)
+
+      kind : (r : Bool) → told (writeAt (cond r (Resource (a % 16)) (Trace (a % 16))) word lines c .reply) ≡ writeRows true (false ∷ false ∷ false ∷ true ∷ true ∷ false ∷ []) (oneLine lines) (c .control .sampling) (passes c a) (lacksRoom r (c .queue)) (c .control .writewait)
+      kind true = written-trigger true (oneLine lines) (c .control .sampling) (passes c a) (lacksRoom true (c .queue)) (c .control .writewait)
+      kind false = written-trigger false (oneLine lines) (c .control .sampling) (passes c a) (lacksRoom false (c .queue)) (c .control .writewait)
+
+      go : (h : Bool) → ltb 127 a ≡ h → (t : Bool) → triggering a ≡ t → told (writeAt (placeOf a) word lines c .reply) ≡ by (tests a)
+      go true p t q =
+          ap (λ (x : Place). told (writeAt x word lines c .reply)) (place-beyond a (ltb-true 127 a p))
+          ∙ sym (ap by (tests-beyond a (ltb-true 127 a p)))
+      go false p true q =
+          ap (λ (x : Place). told (writeAt x word lines c .reply)) (place-trigger a q) ∙ kind (leb 112 a)
+          ∙ sym (ap by (tests-trigger a (omega (arith, ltb-false 127 a p)) q))
+      go false p false q =
+          same-eq _ _ (or-rest (triggering a) _ (upTo-at 128 (λ b. triggering b || same (told (writeAt (placeOf b) word lines c .reply)) (writeRows true (tests b) (oneLine lines) (c .control .sampling) (passes c b) (lacking c b) (c .control .writewait))) refl a (omega (arith, ltb-false 127 a p))) q)
+
+module _ (a : ℕ) (c : Chip) where
+  counted : (b w : Bool) (x y z : Chip) (v : ℕ) → told (cond b (cond w (refuse Wait x) (record { chip = y; value = 2 ^ 63; reply = Busy })) (done v z) .reply) ≡ readRows true (false ∷ false ∷ false ∷ false ∷ false ∷ true ∷ []) b w
+  counted true true x y z v = refl
+  counted true false x y z v = refl
+  counted false w x y z v = refl
+
+  seen : told (readAt (placeOf a) c .reply) ≡ readRows true (tests a) (busy (c .queue)) (c .control .readwait)
+  unfolding readAt readCounter placeOf registerOf
+  seen = go (ltb 127 a) refl (counterAt a) refl
+    where
+      by : List Bool → List Bool
+      by t = readRows true t (busy (c .queue)) (c .control .readwait)
+
+      go : (h : Bool) → ltb 127 a ≡ h → (t : Bool) → counterAt a ≡ t → told (readAt (placeOf a) c .reply) ≡ by (tests a)
+      go true p t q =
+          ap (λ (x : Place). told (readAt x c .reply)) (place-beyond a (ltb-true 127 a p)) ∙ sym (ap by (tests-beyond a (ltb-true 127 a p)))
+      go false p true q =
+          ap (λ (x : Place). told (readAt x c .reply)) (place-counter a q)
+          ∙ counted (busy (c .queue)) (c .control .readwait) (withControl (waited (c .control)) c) c (withBank (copied (c .bank)) c) (getD (c .bank .values) (a - 32) 0)
+          ∙ sym (ap by (tests-counter a (omega (arith, ltb-false 127 a p)) q))
+      go false p false q =
+          same-eq _ _ (or-rest (counterAt a) _ (upTo-at 128 (λ b. counterAt b || same (told (readAt (placeOf b) c .reply)) (readRows true (tests b) (busy (c .queue)) (c .control .readwait))) refl a (omega (arith, ltb-false 127 a p))) q)
+
+-- 15 is tried first
+told-guarded : (b : Bool) (c : Chip) (x : Answer) (f : Bool → List Bool) → told (x .reply) ≡ f true → told Outside ≡ f false → told (cond b x (refuse Outside c) .reply) ≡ f b
+told-guarded true c x f p q = p
+told-guarded false c x f p q = q
+
+-- where a row can only be 15 or, for a single send, 5
+abbrev fewRows : Bool → Bool → Bool → List Bool
+fewRows x i n =
+    table x (i && false) (i && false) (i && false) (i && false) (i && n) (i && false) (i && false) (i && false) (i && false) (i && false)
+
+told-reset : (i : Bool) → told Done ≡ fewRows false i false
+told-reset true = refl
+told-reset false = refl
+
+told-done : (i : Bool) (c d : Chip) (v : ℕ) → told (cond i (done v d) (refuse Outside c) .reply) ≡ fewRows (not i) i false
+told-done true c d v = refl
+told-done false c d v = refl
+
+told-sent : (i n : Bool) (c d : Chip) (v : ℕ) → told (cond i (cond n (refuse NoWord c) (done v d)) (refuse Outside c) .reply) ≡ fewRows (not i) i n
+told-sent true true c d v = refl
+told-sent true false c d v = refl
+told-sent false n c d v = refl
+
+-- every operation
+all-rows : (op : Operation) (c : Chip) → told (step op c .reply) ≡ rows op c
+unfolding write read timestampTicks nodeTicks externalEvents send sendInto
+all-rows opReset c = told-reset (inside c)
+all-rows (opWrite a word lines) c =
+    told-guarded (inside c) c (writeAt (placeOf a) word lines c)
+    (λ i. writeRows i (tests a) (oneLine lines) (c .control .sampling) (passes c a) (lacking c a) (c .control .writewait))
+    (written a word lines c) refl
+all-rows (opRead a) c =
+    told-guarded (inside c) c (readAt (placeOf a) c) (λ i. readRows i (tests a) (busy (c .queue)) (c .control .readwait)) (seen a c) refl
+all-rows (opTicks k) c = told-done (inside c) c _ 0
+all-rows (opNodes k) c = told-done (inside c) c _ 0
+all-rows (opEvents mask) c = told-done (inside c) c _ 0
+all-rows opSend c = told-sent (inside c) (eqb (c .queue .held) 0) c _ _
+all-rows (opFill room) c = told-done (inside c) c _ _
+
+-- ---- the rows
+
+module _ (op : Operation) (c : Chip) where
+  row-at : (k : ℕ) → getD (told (step op c .reply)) k false ≡ getD (rows op c) k false
+  row-at k = ap (λ (l : List Bool). getD l k false) (all-rows op c)
+
+  pub reply-15 : eqb (replyNumber (step op c .reply)) 15 ≡ row15 op c
+  reply-15 = row-at 0
+
+  pub reply-1 : eqb (replyNumber (step op c .reply)) 1 ≡ row1 op c
+  reply-1 = row-at 1
+
+  pub reply-2 : eqb (replyNumber (step op c .reply)) 2 ≡ row2 op c
+  reply-2 = row-at 2
+
+  pub reply-3 : eqb (replyNumber (step op c .reply)) 3 ≡ row3 op c
+  reply-3 = row-at 3
+
+  pub reply-4 : eqb (replyNumber (step op c .reply)) 4 ≡ row4 op c
+  reply-4 = row-at 4
+
+  pub reply-5 : eqb (replyNumber (step op c .reply)) 5 ≡ row5 op c
+  reply-5 = row-at 5
+
+  pub reply-6 : eqb (replyNumber (step op c .reply)) 6 ≡ row6 op c
+  reply-6 = row-at 6
+
+  pub reply-7 : eqb (replyNumber (step op c .reply)) 7 ≡ row7 op c
+  reply-7 = row-at 7
+
+  pub reply-8 : eqb (replyNumber (step op c .reply)) 8 ≡ row8 op c
+  reply-8 = row-at 8
+
+  pub reply-10 : eqb (replyNumber (step op c .reply)) 10 ≡ row10 op c
+  reply-10 = row-at 9
+
+  pub reply-11 : eqb (replyNumber (step op c .reply)) 11 ≡ row11 op c
+  reply-11 = row-at 10
+
+  pub reply-0 : eqb (replyNumber (step op c .reply)) 0 ≡ row0 op c
+  reply-0 = row-at 11
+
+  -- "Any two replies allowed by a promise are shown equal": each operation's promise is an equation with `step`
+  pub one-answer : (a b : Answer) → a ≡ step op c → b ≡ step op c → a ≡ b
+  one-answer a b p q = p ∙ sym q
+
+  -- and of a lent buffer an equation with `sentBuffer`
+  pub one-buffer : (out a b : List ℕ) → a ≡ sentBuffer c out → b ≡ sentBuffer c out → a ≡ b
+  one-buffer out a b p q = p ∙ sym q

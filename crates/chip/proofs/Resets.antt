@@ -1,0 +1,23 @@
+-- Resets give a fresh record, whatever came in, but for the Timestamp of a software reset: by computation. Assumes nothing.
+use Prim.Native.Nat.{ℕ}
+use mathlib.Core.Path.{_≡_, refl, sym, ap, _∙_}
+use mathlib.Core.Bool.{true}
+use Rattle.chip.specs.Chip.{done, fresh, inside, softReset, withStamp, write, writeAt}
+use Rattle.chip.specs.Operation.{opReset, opWrite, step}
+use Rattle.chip.specs.Place.{placeOf, registerOf}
+use Rattle.chip.specs.declared.chip.Chip.{Chip}
+use Rattle.chip.proofs.ChipLaws.{guard-in}
+
+-- "Hardware reset: every part becomes zero, Timestamp included. That is a fresh chip"
+pub hard-reset : (c : Chip) → step opReset c ≡ done 0 fresh
+hard-reset c = refl
+
+-- "Software reset. Everything becomes as after a hardware reset except the Timestamp"
+pub soft-reset : (word lines : ℕ) (c : Chip) → inside c ≡ true → step (opWrite 0 word lines) c ≡ done 0 (withStamp (c .stamp) fresh)
+unfolding write writeAt placeOf registerOf
+soft-reset word lines c h = sym (guard-in c (done 0 (softReset c)) h)
+
+-- so of two tasks' records nothing but the Timestamp can be read after it
+pub soft-reset-same : (word lines word′ lines′ : ℕ) (c d : Chip) → inside c ≡ true → inside d ≡ true → c .stamp ≡ d .stamp → step (opWrite 0 word lines) c ≡ step (opWrite 0 word′ lines′) d
+soft-reset-same word lines word′ lines′ c d h k e =
+    soft-reset word lines c h ∙ ap (λ (n : ℕ). done 0 (withStamp n fresh)) e ∙ sym (soft-reset word′ lines′ d k)

@@ -1,0 +1,166 @@
+-- What is sent are the words of the first sample held, one after the other; and a sample taken is one that the writer takes, so the reader
+-- gives it back: its fields are cut to their widths at the trigger. Assumes nothing.
+use Prim.Native.Nat.{ℕ, zero, suc, _+_, _/_, _%_, _^_, _≤_, _<_, suc-le-suc}
+use native.Mathlib.Nat.{zero-lt-suc, zero-add}
+use native.Mathlib.Omega.{arith}
+use mathlib.Core.Path.{_≡_, refl, sym, ap, _∙_, subst}
+use mathlib.Core.Bool.{Bool, true, false, cond, _&&_, _||_, false≢true}
+use mathlib.Core.List.{List, _++_}
+use lib.Count.{onesIn, trailingZeros, under}
+use lib.Dec.{eqb, leb, ltb}
+use lib.ListN.{drop, getD, length, replicate, take, length-drop}
+use lib.Seq.{length-take-le}
+use borrow.Author.Tests.{eq-eqb, eqb-true, lt-ltb, ne-eqb}
+use Rattle.samples.specs.Layout.{counterWidths, firstChip, resource, sampleLength, sampleWords}
+use Rattle.samples.specs.Read.{readPart}
+use Rattle.samples.specs.Write.{allZero, within, writable}
+use Rattle.samples.specs.declared.reader.Answer.the-variants.{Good}
+use Rattle.samples.proofs.SampleLaws.{sample-length}
+use Rattle.samples.proofs.Theorems.{read-written}
+use Rattle.counters.specs.Bank.{copied}
+use Rattle.queue.specs.Queue.{advanced, firstCount, firstHeld, heldSample, sendWords}
+use Rattle.queue.specs.declared.queue.Held.{Held}
+use Rattle.queue.specs.declared.queue.Queue.{Queue}
+use Rattle.queue.proofs.CountLaws.{send-first, sentMore, words-first}
+use Rattle.queue.proofs.QueueLaws.{held-sixteen}
+use Rattle.chip.specs.Chip.{done, fateOf, headerOf, inside, lineOf, oneLine, refuse, sampleNow, takeSample, trigger, triggerBy, withQueue, write, writeAt}
+use Rattle.chip.specs.Fate.{Fate, isOff, isFiltered, isLost, isTold, isTaken}
+use Rattle.chip.specs.Place.{placeOf}
+use Rattle.chip.specs.Reply.{replyNumber}
+use Rattle.chip.specs.Rows.{triggering}
+use Rattle.chip.specs.Sent.{firstWords, takenSample}
+use Rattle.chip.specs.Operation.{opSend, opWrite, step}
+use Rattle.chip.specs.Repeat.{given, repeat}
+use Rattle.chip.specs.Shape.{Shaped}
+use Rattle.chip.specs.declared.chip.Answer.{Answer}
+use Rattle.chip.specs.declared.chip.Chip.{Chip}
+use Rattle.chip.specs.declared.place.Place.{Place}
+use Rattle.chip.specs.declared.place.Place.the-variants.{Trace, Resource}
+use Rattle.chip.specs.declared.reply.Reply.{Reply}
+use Rattle.chip.specs.declared.reply.Reply.the-variants.{Done, Lines, Off, Filtered, Lost, Wait, Outside}
+use Rattle.chip.proofs.AddressLaws.{place-trigger}
+use Rattle.chip.proofs.Bounds.{repeat-inside}
+use Rattle.chip.proofs.Sends.{given-sends, repeat-sends, send-word}
+use Rattle.chip.proofs.WidthLaws.{within-at, within-length}
+
+-- ---- the words of the sample that is being sent
+
+module _ (c : Chip) (h : inside c ≡ true) (some : c .queue .held ≡ 0 → ⊥) where
+  -- a send returns the next of them
+  pub next-word : step opSend c ≡ done (getD (firstWords c) (c .queue .sent) 0) (withQueue (advanced (c .queue)) c)
+  next-word = send-word c h some
+
+  -- and after k sends the one k places on
+  pub word-after : (k : ℕ) → c .queue .sent + k < firstCount (c .queue) → step opSend (repeat k opSend c) .value ≡ getD (firstWords c) (c .queue .sent + k) 0
+  word-after k p =
+      let now : Chip = withQueue (sentMore k (c .queue)) c in
+      let there : repeat k opSend c ≡ now = repeat-sends k c h ∙ ap (λ (q : Queue). withQueue q c) (send-first k (c .queue) some p) in
+      ap (λ (d : Chip). step opSend d .value) there ∙ ap (λ (a : Answer). a .value) (send-word now (subst (λ (d : Chip). inside d ≡ true) there (repeat-inside k opSend c h)) some)
+
+  -- k of them in a row
+  pub words-after : (k : ℕ) → Shaped c → c .queue .sent + k ≤ firstCount (c .queue) → given k opSend c ≡ take k (drop (c .queue .sent) (firstWords c))
+  words-after k s p =
+      let sixteen : length (c .bank .shadows) ≡ 16 = within-length 4 16 (c .bank .shadows) (s .shadows) in
+      let ws : List ℕ = firstWords c in
+      let long : length ws ≡ firstCount (c .queue) = sample-length firstChip (heldSample (c .bank .shadows) (firstHeld (c .queue))) (held-sixteen (c .bank .shadows) (firstHeld (c .queue)) sixteen) in
+      let words : sendWords k (c .bank .shadows) (c .queue) ≡ take k (drop (c .queue .sent) ws) = words-first k (c .bank .shadows) (c .queue) sixteen some p in
+      let count : length (sendWords k (c .bank .shadows) (c .queue)) ≡ k =
+      ap length words ∙ length-take-le k (drop (c .queue .sent) ws) (simp (length-drop, long) (omega arith)) in
+      ap (λ (n : ℕ). given n opSend c) (sym count) ∙ given-sends k c h ∙ words
+
+-- ---- the sample that a trigger takes
+
+-- a line's number
+line-under : (k n : ℕ) → (onesIn k n ≡ 0 → ⊥) → trailingZeros k n < k
+unfolding onesIn trailingZeros
+line-under zero n h = absurd (h refl)
+line-under (suc k) n h = go (n % 2) h (line-under k (n / 2))
+  where
+    go : (d : ℕ) → (d + onesIn k (n / 2) ≡ 0 → ⊥) → ((onesIn k (n / 2) ≡ 0 → ⊥) → trailingZeros k (n / 2) < k) → under d (trailingZeros k (n / 2)) < suc k
+    go zero p ih = suc-le-suc (ih (λ e. p (zero-add (onesIn k (n / 2)) ∙ e)))
+    go (suc d) p ih = zero-lt-suc k
+
+pub line-below : (lines : ℕ) → oneLine lines ≡ true → lineOf lines < 8
+line-below lines e = line-under 8 lines (λ z. let p : onesIn 8 lines ≡ 1 = eqb-true (onesIn 8 lines) 1 e in omega arith)
+
+-- a header of five bits, and its bit 3
+module _ (line : ℕ) (small : line < 8) where
+  header-small : (r l : Bool) → headerOf line r l < 32
+  header-small true true = omega arith
+  header-small true false = omega arith
+  header-small false true = omega arith
+  header-small false false = omega arith
+
+  header-kind : (r l : Bool) → resource (headerOf line r l) ≡ r
+  header-kind true true = eq-eqb (headerOf line true true / 8 % 2) 1 (omega arith)
+  header-kind true false = eq-eqb (headerOf line true false / 8 % 2) 1 (omega arith)
+  header-kind false true = ne-eqb (headerOf line false true / 8 % 2) 1 (λ e. omega arith)
+  header-kind false false = ne-eqb (headerOf line false false / 8 % 2) 1 (λ e. omega arith)
+
+-- the sixteen counters of a sample: the shadows' for a Resource sample, and zeros else
+kind-within : (r : Bool) (cs : List ℕ) → (r ≡ true → within counterWidths cs ≡ true) → within counterWidths (cond r cs (replicate 16 0)) ≡ true
+unfolding within
+kind-within true cs e = e refl
+kind-within false cs e = refl
+
+kind-zeros : (r : Bool) (cs : List ℕ) → (r || allZero (cond r cs (replicate 16 0))) ≡ true
+unfolding allZero
+kind-zeros true cs = refl
+kind-zeros false cs = refl
+
+-- a held sample that the writer takes
+held-writable : (shadows : List ℕ) (x : Held) → x .header < 32 → x .source < 256 ^ 4 → x .stamp < 256 ^ 5 → x .user < 256 ^ 6 → (resource (x .header) ≡ true → within counterWidths shadows ≡ true) → writable firstChip (heldSample shadows x) ≡ true
+unfolding writable within
+held-writable shadows x h s t u w =
+    let small : ltb (x .header) 32 ≡ true = lt-ltb (x .header) 32 h in
+    let header : ltb (x .header) (256 ^ 1) ≡ true = lt-ltb (x .header) (256 ^ 1) (omega arith) in
+    let source : ltb (x .source) (256 ^ 4) ≡ true = lt-ltb (x .source) (256 ^ 4) s in
+    let stamp : ltb (x .stamp) (256 ^ 5) ≡ true = lt-ltb (x .stamp) (256 ^ 5) t in
+    let user : ltb (x .user) (256 ^ 6) ≡ true = lt-ltb (x .user) (256 ^ 6) u in
+    let counters : within counterWidths (cond (resource (x .header)) shadows (replicate 16 0)) ≡ true = kind-within (resource (x .header)) shadows w in
+    let zeros : (resource (x .header) || allZero (cond (resource (x .header)) shadows (replicate 16 0))) ≡ true = kind-zeros (resource (x .header)) shadows in
+    λ i. (header i && (source i && (stamp i && (user i && true)))) && (counters i && (small i && zeros i))
+
+module _ (r : Bool) (line word : ℕ) (c : Chip) (small : line < 8) (s : Shaped c) where
+  pub taken-writable : writable firstChip (takenSample r line word c) ≡ true
+  taken-writable =
+      held-writable (takeSample r line word c .bank .shadows) (sampleNow r line word c) (header-small line small r (c .control .lost)) (within-at 4 8 (c .sources) (s .sources) line) (omega arith) (omega arith)
+      (λ e. copy r (sym (header-kind line small r (c .control .lost)) ∙ e))
+    where
+      copy : (k : Bool) → k ≡ true → within counterWidths (cond k (copied (c .bank)) (c .bank) .shadows) ≡ true
+      copy true e = s .values
+      copy false e = s .shadows
+
+  -- so the reader gives it back from its words, whatever comes after them
+  pub taken-read : (rest : List ℕ) → readPart firstChip (sampleWords firstChip (takenSample r line word c) ++ rest) ≡ record { sample = takenSample r line word c; count = sampleLength firstChip r; answer = Good }
+  taken-read rest =
+      read-written firstChip (takenSample r line word c) rest taken-writable
+      ∙ ap (λ (k : Bool). record { sample = takenSample r line word c; count = sampleLength firstChip k; answer = Good }) (header-kind line small r (c .control .lost))
+
+-- ---- "0 .. sample taken"
+
+differ : (x : Reply) → x ≡ Done → (eqb (replyNumber x) 0 ≡ false) → ⊥
+differ x e p = false≢true (sym p ∙ ap (λ (y : Reply). eqb (replyNumber y) 0) e)
+
+trigger-done : (o r : Bool) (f : Fate) (line word : ℕ) (c : Chip) → cond o (triggerBy f r line word c) (refuse Lines c) .reply ≡ Done → (cond o (triggerBy f r line word c) (refuse Lines c) ≡ done 0 (takeSample r line word c)) × (o ≡ true)
+unfolding triggerBy
+trigger-done false r f line word c e = absurd (differ Lines e refl)
+trigger-done true r isOff line word c e = absurd (differ Off e refl)
+trigger-done true r isFiltered line word c e = absurd (differ Filtered e refl)
+trigger-done true r isLost line word c e = absurd (differ Lost e refl)
+trigger-done true r isTold line word c e = absurd (differ Wait e refl)
+trigger-done true r isTaken line word c e = (refl, refl)
+
+-- a trigger with reply 0 has one active line and takes a sample
+pub trigger-takes : (a word lines : ℕ) (c : Chip) → triggering a ≡ true → step (opWrite a word lines) c .reply ≡ Done → (step (opWrite a word lines) c ≡ done 0 (takeSample (leb 112 a) (lineOf lines) word c)) × (oneLine lines ≡ true)
+unfolding write writeAt trigger
+trigger-takes a word lines c t e = guard (inside c) e
+  where
+    kind : (r : Bool) → writeAt (cond r (Resource (a % 16)) (Trace (a % 16))) word lines c .reply ≡ Done → (writeAt (cond r (Resource (a % 16)) (Trace (a % 16))) word lines c ≡ done 0 (takeSample r (lineOf lines) word c)) × (oneLine lines ≡ true)
+    kind true = trigger-done (oneLine lines) true (fateOf true (a % 16) c) (lineOf lines) word c
+    kind false = trigger-done (oneLine lines) false (fateOf false (a % 16) c) (lineOf lines) word c
+
+    guard : (b : Bool) → cond b (writeAt (placeOf a) word lines c) (refuse Outside c) .reply ≡ Done → (cond b (writeAt (placeOf a) word lines c) (refuse Outside c) ≡ done 0 (takeSample (leb 112 a) (lineOf lines) word c)) × (oneLine lines ≡ true)
+    guard false q = absurd (differ Outside q refl)
+    guard true q =
+        subst (λ (p : Place). writeAt p word lines c .reply ≡ Done → (writeAt p word lines c ≡ done 0 (takeSample (leb 112 a) (lineOf lines) word c)) × (oneLine lines ≡ true)) (sym (place-trigger a t)) (kind (leb 112 a)) q

@@ -1,0 +1,147 @@
+-- Document 01, "Reply numbers": for each row of the table, whether an operation on a record is that row's case. The rows are "tried in
+-- the order 15, 1, 2, 3, 4, then for a trigger 6, 7, 8 or 10".
+use Prim.Native.Nat.{ℕ, _%_}
+use mathlib.Core.Bool.{Bool, true, false, not, _&&_, _||_}
+use lib.Dec.{leb, ltb, eqb}
+use Rattle.counters.specs.Bank.{bit}
+use Rattle.queue.specs.Queue.{busy}
+use Rattle.chip.specs.Chip.{inside, lacksRoom, oneLine}
+use Rattle.chip.specs.Operation.{Operation, opReset, opWrite, opRead, opTicks, opNodes, opEvents, opSend, opFill}
+use Rattle.chip.specs.Reply.{replyNumber}
+use Rattle.chip.specs.declared.chip.Chip.{Chip}
+use Rattle.chip.specs.declared.reply.Reply.{Reply}
+
+-- ---- addresses, by "Address map"
+
+-- the addresses from one up to another
+abbrev pub between : ℕ → ℕ → ℕ → Bool
+between first last a = leb a last && leb first a
+
+-- "96..111 Trace trigger", "112..127 Resource trigger"
+abbrev pub triggering : ℕ → Bool
+triggering a = between 96 127 a
+
+-- "32..47 .. counter 0..15"
+abbrev pub counterAt : ℕ → Bool
+counterAt a = between 32 47 a
+
+-- the addresses that the map names
+abbrev pub mapped : ℕ → Bool
+mapped a = leb a 2 || (between 4 6 a || (eqb a 8 || (between 10 12 a || (between 16 23 a || (counterAt a || triggering a)))))
+
+-- "All other addresses to 127 give 2"
+abbrev pub vacant : ℕ → Bool
+vacant a = leb a 127 && not (mapped a)
+
+-- "refused (3)" as a write
+abbrev pub readOnly : ℕ → Bool
+readOnly a = eqb a 2
+
+-- "refused (3)" as a read
+abbrev pub writeOnly : ℕ → Bool
+writeOnly a = eqb a 0 || (eqb a 10 || (eqb a 12 || triggering a))
+
+-- ---- operations, by "The chip's operations"
+
+-- "any operation but hardware reset"
+abbrev pub checked : Operation → Bool
+checked opReset = false
+checked (opWrite address word lines) = true
+checked (opRead address) = true
+checked (opTicks k) = true
+checked (opNodes k) = true
+checked (opEvents mask) = true
+checked opSend = true
+checked (opFill room) = true
+
+-- a write whose address and lines pass the first test, a read whose address passes the second, or a single send under the third
+abbrev pub case : (ℕ → ℕ → Bool) → (ℕ → Bool) → Bool → Operation → Bool
+case w r s opReset = false
+case w r s (opWrite address word lines) = w address lines
+case w r s (opRead address) = r address
+case w r s (opTicks k) = false
+case w r s (opNodes k) = false
+case w r s (opEvents mask) = false
+case w r s opSend = s
+case w r s (opFill room) = false
+
+-- a trigger with exactly one active processor line that passes a test of its address
+abbrev pub triggerCase : (ℕ → Bool) → Operation → Bool
+triggerCase f op = case (λ a lines. triggering a && (oneLine lines && f a)) (λ a. false) false op
+
+-- a read of a counter, under a test
+abbrev pub counterCase : Bool → Operation → Bool
+counterCase b op = case (λ a lines. false) (λ a. counterAt a && b) false op
+
+-- ---- triggers, by "Triggers and the queue"
+
+-- the Filter has the trigger's bit: "filter level = address mod 16"
+abbrev pub passes : Chip → ℕ → Bool
+passes c a = bit (c .control .filter) (a % 16)
+
+-- "A trigger lacks room": from 112 on it is a Resource trigger
+abbrev pub lacking : Chip → ℕ → Bool
+lacking c a = lacksRoom (leb 112 a) (c .queue)
+
+-- ---- the rows
+
+-- "15 record outside its bounds (any operation but hardware reset)"
+abbrev pub row15 : Operation → Chip → Bool
+row15 op c = checked op && not (inside c)
+
+-- "1 address above 127"
+abbrev pub row1 : Operation → Chip → Bool
+row1 op c = inside c && case (λ a lines. ltb 127 a) (λ a. ltb 127 a) false op
+
+-- "2 nothing at this address"
+abbrev pub row2 : Operation → Chip → Bool
+row2 op c = inside c && case (λ a lines. vacant a) (λ a. vacant a) false op
+
+-- "3 write of a read-only or read of a write-only address"
+abbrev pub row3 : Operation → Chip → Bool
+row3 op c = inside c && case (λ a lines. readOnly a) (λ a. writeOnly a) false op
+
+-- "4 trigger without exactly one active processor line"
+abbrev pub row4 : Operation → Chip → Bool
+row4 op c = inside c && case (λ a lines. triggering a && not (oneLine lines)) (λ a. false) false op
+
+-- "5 no word to send (single send)"
+abbrev pub row5 : Operation → Chip → Bool
+row5 op c = inside c && case (λ a lines. false) (λ a. false) (eqb (c .queue .held) 0) op
+
+-- "6 sampling is off"
+abbrev pub row6 : Operation → Chip → Bool
+row6 op c = inside c && triggerCase (λ a. not (c .control .sampling)) op
+
+-- "7 filtered"
+abbrev pub row7 : Operation → Chip → Bool
+row7 op c = inside c && triggerCase (λ a. c .control .sampling && not (passes c a)) op
+
+-- "8 lost": "Lacking room, it replies 10 under write wait. Otherwise it replies 8"
+abbrev pub row8 : Operation → Chip → Bool
+row8 op c =
+    inside c && triggerCase (λ a. c .control .sampling && (passes c a && (lacking c a && not (c .control .writewait)))) op
+
+-- "10 wait and try again": that, and "With the shadows busy: reply 10 if read wait is set"
+abbrev pub row10 : Operation → Chip → Bool
+row10 op c =
+    inside c
+    && (triggerCase (λ a. c .control .sampling && (passes c a && (lacking c a && c .control .writewait))) op
+    || counterCase (busy (c .queue) && c .control .readwait) op)
+
+-- "11 shadows busy, not waiting"
+abbrev pub row11 : Operation → Chip → Bool
+row11 op c = inside c && counterCase (busy (c .queue) && not (c .control .readwait)) op
+
+-- "0 done, or sample taken": none of the others
+abbrev pub row0 : Operation → Chip → Bool
+row0 op c =
+    not (row15 op c || (row1 op c || (row2 op c || (row3 op c || (row4 op c || (row5 op c || (row6 op c || (row7 op c || (row8 op c || (row10 op c || row11 op c))))))))))
+
+-- "Refusals are 1 to 5, 9 and 15" (9 is the bench program's)
+abbrev pub refused : Reply → Bool
+refused r = between 1 5 (replyNumber r) || eqb (replyNumber r) 15
+
+-- "112..127 Resource trigger"
+abbrev pub resourceTrigger : Operation → Bool
+resourceTrigger op = case (λ a lines. between 112 127 a) (λ a. false) false op

@@ -1,0 +1,17 @@
+-- Document 01, "Sample and words" and "Triggers and the queue": the sample that a trigger takes, and the words of the one that is being sent.
+use Prim.Native.Nat.{ℕ}
+use mathlib.Core.Bool.{Bool}
+use mathlib.Core.List.{List}
+use Rattle.samples.specs.Layout.{firstChip, sampleWords}
+use Rattle.samples.specs.declared.sample.Sample.{Sample}
+use Rattle.queue.specs.Queue.{firstHeld, heldSample}
+use Rattle.chip.specs.Chip.{sampleNow, takeSample}
+use Rattle.chip.specs.declared.chip.Chip.{Chip}
+
+-- "A taken sample fixes its fields at the trigger; a Resource trigger also copies all counters to the shadows"
+abbrev pub takenSample : Bool → ℕ → ℕ → Chip → Sample
+takenSample resource line word c = heldSample (takeSample resource line word c .bank .shadows) (sampleNow resource line word c)
+
+-- the words of the first sample held
+abbrev pub firstWords : Chip → List ℕ
+firstWords c = sampleWords firstChip (heldSample (c .bank .shadows) (firstHeld (c .queue)))
