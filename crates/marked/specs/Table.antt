@@ -1,0 +1,50 @@
+-- Rows of marked examples, and the one test of a row.
+use Prim.Native.Nat.{ℕ}
+use mathlib.Core.Bool.{Bool, true, false, _&&_}
+use mathlib.Core.List.{List, [], _∷_}
+use lib.Dec.{eqb}
+use lib.ListN.{getD, length}
+use Rattle.samples.specs.Layout.{firstChip, sampleBytes, sampleWords}
+use Rattle.samples.specs.Read.{answerNumber, readPart}
+use Rattle.samples.specs.declared.sample.Sample.{Sample}
+use Rattle.chip.specs.Chip.{fresh}
+use Rattle.chip.specs.Operation.{Operation, step}
+use Rattle.chip.specs.Reply.{replyNumber}
+use Rattle.chip.specs.declared.chip.Chip.{Chip}
+
+-- one operation of a script: with the number that it must reply, or with number and value
+pub data Line : Type 0 where
+  replies : Operation → ℕ → Line
+  gives : Operation → ℕ → ℕ → Line
+
+-- a row: a script on a fresh chip; a sample with its bytes and its last word; words with the reader's answer
+pub data Row : Type 0 where
+  script : List Line → Row
+  bytesAre : Sample → List ℕ → ℕ → Row
+  readerSays : List ℕ → ℕ → Row
+
+unfoldable pub runs : List Line → Chip → Bool
+runs [] c = true
+runs (replies op n ∷ ls) c =
+    let a = step op c in
+    eqb (replyNumber (a .reply)) n && runs ls (a .chip)
+runs (gives op n v ∷ ls) c =
+    let a = step op c in
+    eqb (replyNumber (a .reply)) n && (eqb (a .value) v && runs ls (a .chip))
+
+unfoldable pub sameNumbers : List ℕ → List ℕ → Bool
+sameNumbers [] [] = true
+sameNumbers [] (y ∷ ys) = false
+sameNumbers (x ∷ xs) [] = false
+sameNumbers (x ∷ xs) (y ∷ ys) = eqb x y && sameNumbers xs ys
+
+-- the test of a row
+unfoldable pub holds : Row → Bool
+holds (script ls) = runs ls fresh
+holds (bytesAre s bytes last) = sameNumbers (sampleBytes firstChip s) bytes && eqb (getD (sampleWords firstChip s) 15 0) last
+holds (readerSays words n) = eqb (answerNumber (readPart firstChip words .answer)) n
+
+-- and of a table
+unfoldable pub allHold : List Row → Bool
+allHold [] = true
+allHold (r ∷ rs) = holds r && allHold rs
