@@ -1,5 +1,6 @@
 -- The laws that belong to no one function.
 pub mod Gather
+pub mod Numbers
 pub mod ReadLaws
 pub mod RoundTrip
 pub mod SampleLaws

@@ -15,7 +15,7 @@ ghost use lib.ListN.{length, take, drop};
 ghost use Rattle.words.specs.Bytes.{number};
 ghost use Rattle.words.specs.Word.{byteOf};
 ghost use Rattle.samples.specs.Layout.{firstChip, counterWidths};
-ghost use Rattle.samples.specs.Read.{faultAt, gather, isGood, readPart, refusal, sampleOf, scan, wanted};
+ghost use Rattle.samples.specs.Read.{answerNumber, faultAt, gather, isGood, readPart, refusal, sampleOf, scan, wanted};
 
 // What a reader finds of a word, or of the words of a part.
 pub enum Answer {
@@ -191,4 +191,18 @@ fn number_at(part: &[u16], start: usize, size: usize) -> u64
         sum = sum * 256 + byte(part[start + left]) as u64;
     }
     sum
+}
+
+// Document 01's number of an answer: 0, or 20 to 24.
+pub fn answer_number(answer: Answer) -> u64
+    ensures { λ r. ⌜ r ≡ answerNumber answer ⌝ }
+{
+    match answer {
+        Answer::Good => 0,
+        Answer::Unfinished => 20,
+        Answer::TooLarge => 21,
+        Answer::Parity => 22,
+        Answer::Header => 23,
+        Answer::Mark => 24,
+    }
 }

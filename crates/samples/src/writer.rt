@@ -9,7 +9,7 @@ ghost use mathlib.Core.List.{_++_};
 ghost use Prim.Native.Nat.{_≤_};
 ghost use lib.ListN.{length, drop};
 ghost use Rattle.samples.specs.Layout.{firstChip, resource, sampleLength, sampleWords};
-ghost use Rattle.samples.specs.Write.{allZero, writable, writeAnswer, writeBuffer};
+ghost use Rattle.samples.specs.Write.{allZero, writable, writeAnswer, writeBuffer, writtenCount, writtenNumber};
 
 // What writing a sample answers.
 pub enum Written {
@@ -80,5 +80,27 @@ fn fill(sample: Sample, count: usize, out: &mut [u16])
     while i < count {
         out[i] = word(sample_byte(sample, i), i + 1 == count);
         i += 1;
+    }
+}
+
+// Document 01's number of an answer: 0, 17 or 18.
+pub fn written_number(answer: Written) -> u64
+    ensures { λ r. ⌜ r ≡ writtenNumber answer ⌝ }
+{
+    match answer {
+        Written::Words(_) => 0,
+        Written::Unfit => 17,
+        Written::Short => 18,
+    }
+}
+
+// How many words an answer says were written; none with a refusal.
+pub fn written_count(answer: Written) -> usize
+    ensures { λ r. ⌜ r ≡ writtenCount answer ⌝ }
+{
+    match answer {
+        Written::Words(count) => count,
+        Written::Unfit => 0,
+        Written::Short => 0,
     }
 }
