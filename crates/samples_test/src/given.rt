@@ -1,6 +1,5 @@
 // Samples, and words worked out from document 01 by hand.
 use samples::sample::Sample;
-ghost use Prim.Native.Nat.{_<_};
 
 // The mark that a buffer is filled with before it is lent.
 pub const MARK: u16 = 43690;
@@ -26,11 +25,11 @@ pub fn largest(header: u32) -> Sample {
     sample(header, 4294967295, 1099511627775, 281474976710655)
 }
 
-pub fn with_counter(sample: Sample, place: usize, value: u32) -> Sample
-    requires { ⌜ place < 16 ⌝ }
-{
+pub fn with_counter(sample: Sample, place: usize, value: u32) -> Sample {
     let mut counters = sample.counters;
-    counters[place] = value;
+    if place < 16 {
+        counters[place] = value;
+    }
     with_counters(sample, counters)
 }
 

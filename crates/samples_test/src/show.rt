@@ -1,13 +1,12 @@
 // Lines for a person to read: document 01's numbers for the answers, and equal words as a run, `256x3`.
 use libc::STDOUT_FILENO;
-use samples::reader::Answer;
 use samples::reader::Reading;
+use samples::reader::answer_number;
 use samples::sample::Sample;
 use samples::writer::Written;
+use samples::writer::written_count;
+use samples::writer::written_number;
 use words::word::byte;
-ghost use mathlib.Core.Path.{_≡_};
-ghost use Rattle.samples.specs.Read.{answerNumber};
-ghost use Rattle.samples.specs.Write.{writtenNumber, writtenCount};
 
 pub fn text(bytes: &[u8]) {
     io::write_all(STDOUT_FILENO, bytes);
@@ -15,41 +14,6 @@ pub fn text(bytes: &[u8]) {
 
 pub fn number(n: u64) {
     io::print_decimal(STDOUT_FILENO, n);
-}
-
-// The reader's answers: 20 to 24, and 0 for a sample.
-fn answer_number(answer: Answer) -> u64
-    ensures { λ r. ⌜ r ≡ answerNumber answer ⌝ }
-{
-    match answer {
-        Answer::Good => 0,
-        Answer::Unfinished => 20,
-        Answer::TooLarge => 21,
-        Answer::Parity => 22,
-        Answer::Header => 23,
-        Answer::Mark => 24,
-    }
-}
-
-// The writer's answers: 17, 18, and 0 for a sample written.
-fn written_number(written: Written) -> u64
-    ensures { λ r. ⌜ r ≡ writtenNumber written ⌝ }
-{
-    match written {
-        Written::Words(_) => 0,
-        Written::Unfit => 17,
-        Written::Short => 18,
-    }
-}
-
-fn written_count(written: Written) -> usize
-    ensures { λ r. ⌜ r ≡ writtenCount written ⌝ }
-{
-    match written {
-        Written::Words(count) => count,
-        Written::Unfit => 0,
-        Written::Short => 0,
-    }
 }
 
 // Equal numbers that are not printed yet.
