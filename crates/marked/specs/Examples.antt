@@ -35,27 +35,27 @@ examples =
     ∷ script (on ++ (gives (opWrite 96 0 0) 4 0 ∷ gives (opWrite 96 0 3) 4 0 ∷ []))
     -- M6 eight Trace triggers taken, the ninth → 8; after 15 sends still 8, after the sixteenth 0
     ∷ script
-      (on ++ replicate 8 (trigger 96 0) ++ (trigger 96 8 ∷ []) ++ replicate 15 (replies opSend 0) ++ (trigger 96 8 ∷ replies opSend 0 ∷ trigger 96 0 ∷ []))
+    (on ++ replicate 8 (trigger 96 0) ++ (trigger 96 8 ∷ []) ++ replicate 15 (replies opSend 0) ++ (trigger 96 8 ∷ replies opSend 0 ∷ trigger 96 0 ∷ []))
     -- M7 two Resource triggers at 112 in a row: 0, then 8 with only flag 9 set (CSR: sampling 1, busy 128, flag 9 512)
     ∷ script (on ++ (trigger 112 0 ∷ trigger 112 8 ∷ gives (opRead 1) 0 641 ∷ []))
     -- M8 enabled counter at 4,294,967,295, one event of its kind → 0: counter 0 on the node clock
     ∷ script
-      (replies (opWrite 8 4294967297 0) 0 ∷ replies (opWrite 11 1 0) 0 ∷ replies (opNodes 4294967295) 0 ∷ gives (opRead 32) 0 4294967295 ∷ replies (opNodes 1) 0 ∷ gives (opRead 32) 0 0 ∷ [])
+    (replies (opWrite 8 4294967297 0) 0 ∷ replies (opWrite 11 1 0) 0 ∷ replies (opNodes 4294967295) 0 ∷ gives (opRead 32) 0 4294967295 ∷ replies (opNodes 1) 0 ∷ gives (opRead 32) 0 0 ∷ [])
     -- M9 odd counters on node clock, even on external: by the counters' behaviour and by the register
     ∷ script
-      (replies (opWrite 8 0x0000AAAA0000FFFF 0) 0 ∷ replies (opWrite 11 65535 0) 0 ∷ gives (opRead 8) 0 0x0000AAAA0000FFFF ∷ replies (opNodes 3) 0
-        ∷ counters (0 ∷ 3 ∷ 0 ∷ 3 ∷ 0 ∷ 3 ∷ 0 ∷ 3 ∷ 0 ∷ 3 ∷ 0 ∷ 3 ∷ 0 ∷ 3 ∷ 0 ∷ 3 ∷ []) 32
-        ++ (replies (opEvents 65535) 0 ∷ counters (1 ∷ 3 ∷ 1 ∷ 3 ∷ 1 ∷ 3 ∷ 1 ∷ 3 ∷ 1 ∷ 3 ∷ 1 ∷ 3 ∷ 1 ∷ 3 ∷ 1 ∷ 3 ∷ []) 32))
+    (replies (opWrite 8 0x0000AAAA0000FFFF 0) 0 ∷ replies (opWrite 11 65535 0) 0 ∷ gives (opRead 8) 0 0x0000AAAA0000FFFF ∷ replies (opNodes 3) 0
+    ∷ counters (0 ∷ 3 ∷ 0 ∷ 3 ∷ 0 ∷ 3 ∷ 0 ∷ 3 ∷ 0 ∷ 3 ∷ 0 ∷ 3 ∷ 0 ∷ 3 ∷ 0 ∷ 3 ∷ []) 32
+    ++ (replies (opEvents 65535) 0 ∷ counters (1 ∷ 3 ∷ 1 ∷ 3 ∷ 1 ∷ 3 ∷ 1 ∷ 3 ∷ 1 ∷ 3 ∷ 1 ∷ 3 ∷ 1 ∷ 3 ∷ 1 ∷ 3 ∷ []) 32))
     -- M10 9 Timestamp ticks give no slow event, the tenth gives one
     ∷ script
-      (replies (opWrite 11 1 0) 0 ∷ replies (opTicks 9) 0 ∷ gives (opRead 32) 0 0 ∷ replies (opTicks 1) 0 ∷ gives (opRead 32) 0 1 ∷ [])
+    (replies (opWrite 11 1 0) 0 ∷ replies (opTicks 9) 0 ∷ gives (opRead 32) 0 0 ∷ replies (opTicks 1) 0 ∷ gives (opRead 32) 0 1 ∷ [])
     -- M11 Listing B's sample as bytes: 00, 05 00 00 00, 03 00 00 00 00, 02 01 00 00 00 00. Its last word is 768
     ∷ bytesAre listingB (0 ∷ 5 ∷ 0 ∷ 0 ∷ 0 ∷ 3 ∷ 0 ∷ 0 ∷ 0 ∷ 0 ∷ 2 ∷ 1 ∷ 0 ∷ 0 ∷ 0 ∷ 0 ∷ []) 768
     -- and its words from the chip, by Listing B's operations
     ∷ script
-      (replies (opWrite 1 1 0) 0 ∷ replies (opWrite 4 1 0) 0 ∷ replies (opWrite 16 5 0) 0 ∷ replies (opTicks 3) 0 ∷ gives (opWrite 96 258 1) 0 0
-        ∷ gives opSend 0 256 ∷ gives opSend 0 261 ∷ replicate 13 (replies opSend 0)
-        ++ (gives opSend 0 768 ∷ gives opSend 5 0 ∷ []))
+    (replies (opWrite 1 1 0) 0 ∷ replies (opWrite 4 1 0) 0 ∷ replies (opWrite 16 5 0) 0 ∷ replies (opTicks 3) 0 ∷ gives (opWrite 96 258 1) 0 0
+    ∷ gives opSend 0 256 ∷ gives opSend 0 261 ∷ replicate 13 (replies opSend 0)
+    ++ (gives opSend 0 768 ∷ gives opSend 5 0 ∷ []))
     -- M12 empty part → 20; the one word 0 → 22
     ∷ readerSays [] 20
     ∷ readerSays (0 ∷ []) 22
