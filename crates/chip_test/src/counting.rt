@@ -1,0 +1,165 @@
+// Counters, clocks and the Timestamp.
+use super::given;
+use super::show;
+use super::steps;
+use chip::chip::Chip;
+
+// M9.
+pub fn mux_halves() {
+    show::heading(b"MUX SEL's halves: odd counters on node clock, even on external");
+    let mut chip = Chip::fresh();
+    chip = steps::set(chip, 8, 187647121227775);
+    chip = steps::read(chip, 8);
+    chip = steps::set(chip, 11, 65535);
+    chip = steps::node_ticks(chip, 3);
+    chip = steps::external_events(chip, 65535);
+    chip = steps::external_events(chip, 5);
+    chip = steps::set(chip, 32, 0);
+    chip = steps::timestamp_ticks(chip, 10);
+    chip = steps::read(chip, 32);
+    chip = steps::read(chip, 33);
+    chip = steps::read(chip, 34);
+    chip = steps::read(chip, 46);
+    steps::read(chip, 47);
+}
+
+// Bit 37 alone: counter 5 on software, the others on slow clock.
+pub fn software_events() {
+    show::heading(b"Software events; disabling and clearing");
+    let mut chip = Chip::fresh();
+    chip = steps::set(chip, 8, 137438953472);
+    chip = steps::set(chip, 37, 0);
+    chip = steps::set(chip, 11, 65535);
+    chip = steps::set(chip, 37, 0);
+    chip = steps::set(chip, 38, 0);
+    chip = steps::node_ticks(chip, 9);
+    chip = steps::external_events(chip, 65535);
+    chip = steps::timestamp_ticks(chip, 20);
+    chip = steps::read(chip, 37);
+    chip = steps::read(chip, 38);
+    chip = steps::set(chip, 12, 32);
+    chip = steps::set(chip, 37, 0);
+    chip = steps::set(chip, 10, 65600);
+    chip = steps::read(chip, 37);
+    steps::read(chip, 38);
+}
+
+// M10.
+pub fn slow_clock() {
+    show::heading(b"Slow clock: every tenth tick since the reset");
+    let mut chip = Chip::fresh();
+    chip = steps::set(chip, 11, 1);
+    chip = steps::timestamp_ticks(chip, 9);
+    chip = steps::read(chip, 32);
+    chip = steps::timestamp_ticks(chip, 1);
+    chip = steps::read(chip, 32);
+    chip = steps::timestamp_ticks(chip, 4294967295);
+    chip = steps::read(chip, 32);
+    chip = steps::timestamp_ticks(chip, 4);
+    chip = steps::read(chip, 32);
+    chip = steps::timestamp_ticks(chip, 1);
+    chip = steps::read(chip, 32);
+    chip = steps::timestamp_ticks(chip, 0);
+    steps::read(chip, 2);
+}
+
+pub fn phase_unseen() {
+    show::heading(b"The phase runs while a counter is disabled");
+    let mut chip = Chip::fresh();
+    chip = steps::timestamp_ticks(chip, 7);
+    chip = steps::set(chip, 11, 1);
+    chip = steps::timestamp_ticks(chip, 3);
+    steps::read(chip, 32);
+}
+
+pub fn node_wrap() {
+    show::heading(b"Counters wrap at 2^32 by node ticks");
+    let mut chip = Chip::fresh();
+    chip = steps::set(chip, 8, 281470681808895);
+    chip = steps::set(chip, 11, 1);
+    chip = steps::node_ticks(chip, 4294967295);
+    chip = steps::read(chip, 32);
+    chip = steps::node_ticks(chip, 1);
+    chip = steps::read(chip, 32);
+    chip = steps::node_ticks(chip, 4294967295);
+    chip = steps::node_ticks(chip, 4294967295);
+    chip = steps::read(chip, 32);
+    chip = steps::read(chip, 33);
+    steps::node_ticks(chip, 0);
+}
+
+// M8, by each kind: 00, 01, 10, 11.
+pub fn every_kind_wraps() {
+    show::heading(b"Each kind takes 4294967295 to 0, and no other kind does");
+    show::text(b"slow clock\n");
+    by_all_kinds(given::brimful(0, 0));
+    show::text(b"external\n");
+    by_all_kinds(given::brimful(0, 65535));
+    show::text(b"software\n");
+    by_all_kinds(given::brimful(65535, 0));
+    show::text(b"node clock\n");
+    by_all_kinds(given::brimful(65535, 65535));
+}
+
+// Each on the same record.
+fn by_all_kinds(chip: Chip) {
+    let slow = steps::timestamp_ticks(chip, 10);
+    steps::read(slow, 40);
+    let external = steps::external_events(chip, 256);
+    steps::read(external, 40);
+    let software = steps::set(chip, 40, 0);
+    steps::read(software, 40);
+    let node = steps::node_ticks(chip, 1);
+    steps::read(node, 40);
+}
+
+pub fn timestamp_wrap() {
+    show::heading(b"Timestamp wraps at 2^56");
+    let mut chip = given::stamped(given::ready(), 72057594037927935);
+    chip = steps::read(chip, 2);
+    chip = steps::write(chip, 96, 0, 1);
+    chip = steps::timestamp_ticks(chip, 1);
+    chip = steps::read(chip, 2);
+    chip = steps::write(chip, 96, 0, 1);
+    chip = steps::sends(chip, 32);
+    chip = given::stamped(chip, 72057594037927935);
+    chip = steps::timestamp_ticks(chip, 4294967295);
+    steps::read(chip, 2);
+}
+
+// 256 times 2^32 - 1, and 259.
+pub fn forty_bits() {
+    show::heading(b"A sample's Timestamp has 40 bits: 2^40 + 3 ticks give 3");
+    let mut chip = given::ready();
+    chip = steps::long_ticks(chip, 256);
+    chip = steps::timestamp_ticks(chip, 258);
+    chip = steps::read(chip, 2);
+    chip = steps::timestamp_ticks(chip, 1);
+    chip = steps::read(chip, 2);
+    chip = steps::write(chip, 96, 0, 1);
+    steps::sends(chip, 16);
+}
+
+pub fn wait_wrap() {
+    show::heading(b"The Wait Counter wraps at 2^32");
+    let mut chip = given::counted(given::ready(), 4294967295, 4294967295);
+    chip = steps::set(chip, 1, 20);
+    chip = steps::write(chip, 112, 0, 1);
+    chip = steps::read(chip, 5);
+    chip = steps::write(chip, 112, 0, 1);
+    chip = steps::read(chip, 5);
+    chip = steps::read(chip, 32);
+    chip = steps::read(chip, 5);
+    steps::read(chip, 6);
+}
+
+pub fn overrun_wrap() {
+    show::heading(b"The Overrun Counter wraps at 2^32, its flags set");
+    let mut chip = given::counted(given::ready(), 4294967295, 4294967295);
+    chip = steps::triggers(chip, 96, 8);
+    chip = steps::read(chip, 6);
+    chip = steps::write(chip, 96, 0, 1);
+    chip = steps::read(chip, 6);
+    chip = steps::read(chip, 1);
+    steps::read(chip, 5);
+}

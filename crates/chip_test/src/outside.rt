@@ -1,0 +1,66 @@
+// Records outside each bound of reply 15, and the last ones inside.
+use super::given;
+use super::show;
+use super::steps;
+use chip::chip::Chip;
+
+pub fn every_bound() {
+    show::heading(b"Outside: nine samples held");
+    operations(given::queued(0, 9, 0));
+    show::heading(b"Outside: 16 words sent of a Trace sample");
+    operations(given::queued(0, 1, 16));
+    show::heading(b"Outside: 80 words sent of a Resource sample");
+    operations(given::queued(8, 1, 80));
+    show::heading(b"Outside: a word sent, and nothing held");
+    operations(given::queued(0, 0, 1));
+    show::heading(b"Outside: phase 10");
+    operations(given::phased(10));
+    show::heading(b"Outside: Timestamp 2^56");
+    operations(given::stamped(given::ready(), 72057594037927936));
+}
+
+// Every operation, refused ones too: 15 comes first.
+fn operations(chip: Chip) {
+    steps::write(chip, 0, 0, 0);
+    steps::write(chip, 1, 1, 0);
+    steps::write(chip, 96, 0, 1);
+    steps::write(chip, 96, 0, 3);
+    steps::write(chip, 200, 0, 0);
+    steps::read(chip, 2);
+    steps::read(chip, 3);
+    steps::read(chip, 32);
+    ticks_and_sends(chip);
+}
+
+fn ticks_and_sends(chip: Chip) {
+    steps::timestamp_ticks(chip, 3);
+    steps::timestamp_ticks(chip, 0);
+    steps::node_ticks(chip, 3);
+    steps::external_events(chip, 65535);
+    steps::send(chip);
+    steps::send_into(chip, 6);
+    let reset = steps::hardware_reset(chip);
+    steps::is_fresh(reset, 0);
+}
+
+pub fn largest() {
+    show::heading(b"Outside: the largest of each");
+    operations(given::queued(8, 18446744073709551615, 0));
+    steps::read(given::queued(8, 8, 18446744073709551615), 1);
+    steps::read(given::phased(65535), 1);
+    steps::read(given::stamped(Chip::fresh(), 18446744073709551615), 1);
+}
+
+pub fn last_inside() {
+    show::heading(b"Inside: eight held, 15 words sent of a Trace sample");
+    let trace = steps::send(given::queued(0, 8, 15));
+    steps::read(trace, 1);
+    show::heading(b"Inside: 79 words sent of a Resource sample");
+    let resource = steps::send(given::queued(8, 1, 79));
+    steps::read(resource, 1);
+    show::heading(b"Inside: phase 9, and Timestamp 2^56 - 1");
+    steps::timestamp_ticks(given::phased(9), 1);
+    let last = given::stamped(Chip::fresh(), 72057594037927935);
+    let stamp = steps::timestamp_ticks(last, 1);
+    steps::read(stamp, 2);
+}

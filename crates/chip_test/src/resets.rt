@@ -1,0 +1,54 @@
+// Resets, also in the middle of a sample.
+use super::given;
+use super::show;
+use super::steps;
+use chip::chip::Chip;
+
+// A chip with something in each part: registers, counters, shadows, phase 7, samples half sent, flags and the lost mark.
+fn used() -> Chip {
+    let mut chip = given::numbered();
+    chip = steps::set(chip, 4, 1);
+    chip = steps::set(chip, 1, 36);
+    chip = steps::timestamp_ticks(chip, 7);
+    chip = steps::write(chip, 112, 5, 1);
+    chip = steps::write(chip, 112, 5, 1);
+    chip = steps::set(chip, 1, 8);
+    chip = steps::write(chip, 112, 5, 1);
+    steps::sends(chip, 3)
+}
+
+pub fn software_reset() {
+    show::heading(b"Software reset, a sample half sent");
+    let mut chip = used();
+    chip = steps::set(chip, 0, 18446744073709551615);
+    steps::is_fresh(chip, 1009);
+    chip = steps::send(chip);
+    chip = steps::read(chip, 2);
+    chip = steps::set(chip, 1, 1);
+    chip = steps::set(chip, 4, 1);
+    chip = steps::write(chip, 96, 0, 1);
+    steps::sends(chip, 17);
+}
+
+// The phase begins anew: 7 ticks before the reset don't count.
+pub fn phase_after_reset() {
+    show::heading(b"Software reset clears the phase");
+    let mut chip = Chip::fresh();
+    chip = steps::timestamp_ticks(chip, 7);
+    chip = steps::set(chip, 0, 0);
+    chip = steps::set(chip, 11, 1);
+    chip = steps::timestamp_ticks(chip, 9);
+    chip = steps::read(chip, 32);
+    chip = steps::timestamp_ticks(chip, 1);
+    chip = steps::read(chip, 32);
+    steps::read(chip, 2);
+}
+
+pub fn hardware_reset() {
+    show::heading(b"Hardware reset, a sample half sent");
+    let mut chip = used();
+    chip = steps::hardware_reset(chip);
+    steps::is_fresh(chip, 0);
+    chip = steps::send(chip);
+    steps::hardware_reset(chip);
+}
