@@ -459,13 +459,6 @@ impl<W: Write> Lines<W> {
             self.pass_on()?;
         }
         let line = &mut self.block[self.used..self.used + LINE];
-        if reply.number < 10 && reply.value < SMALL as u64 {
-            let (text, length) = SMALL_VALUES[reply.value as usize];
-            line[0] = b'0' + reply.number;
-            line[1..9].copy_from_slice(&text);
-            self.used += length as usize;
-            return Ok(());
-        }
         let mut at = put_decimal(line, 0, reply.number as u64);
         line[at] = b' ';
         at = put_decimal(line, at + 1, reply.value);
@@ -485,31 +478,6 @@ impl<W: Write> Lines<W> {
         self.to.flush()
     }
 }
-
-/// Values below this, every word among them, have their text in a table.
-const SMALL: usize = 1024;
-
-/// For each small value what follows a reply of one digit (space, value,
-/// newline), and the length of the whole line.
-static SMALL_VALUES: [([u8; 8], u8); SMALL] = {
-    let mut table = [([0; 8], 0); SMALL];
-    let mut value = 0;
-    while value < SMALL {
-        let digits = if value == 0 { 1 } else { value.ilog10() as usize + 1 };
-        let mut rest = value;
-        let mut place = digits;
-        table[value].0[0] = b' ';
-        while place > 0 {
-            table[value].0[place] = b'0' + (rest % 10) as u8;
-            rest /= 10;
-            place -= 1;
-        }
-        table[value].0[digits + 1] = b'\n';
-        table[value].1 = digits as u8 + 3;
-        value += 1;
-    }
-    table
-};
 
 /// Writes a number from a place on and gives the place behind it.
 #[inline(always)]

@@ -9,8 +9,8 @@ use counters::switches::Switches;
 use queue::queue::Held;
 use queue::queue::Queue;
 ghost use mathlib.Core.Path.{_≡_};
-ghost use mathlib.Core.Bool.{cond};
-ghost use Prim.Native.Nat.{_<_, _≤_, _^_};
+ghost use mathlib.Core.Bool.{cond, false, true};
+ghost use Prim.Native.Nat.{ℕ, _<_, _≤_, _^_};
 ghost use lib.ListN.{getD, length, set};
 ghost use Rattle.counters.specs.Bank.{copied};
 ghost use Rattle.chip.specs.Chip.{afterTicks, blocked, done, externalEvents, fresh, hardReset, headerOf, inside, nodeTicks, read, readAt, readCounter, refuse, sampleNow, send, sendInto, sentBuffer, softReset, takeSample, timestampTicks, trigger, triggerBy, fateOf, withBank, withControl, withSources, withSwitches, write, writeAt};
@@ -208,8 +208,9 @@ impl Chip {
             Place::Disable => self.switched(self.switches.disabling(word)).done(0),
             Place::Source(i) => self.sourced(i, (word % 4294967296) as u32).done(0),
             Place::Counter(i) => self.banked(self.bank.fired(self.switches, i)).done(0),
-            Place::Trace(level) => self.trigger(false, level, word, lines),
-            Place::Resource(level) => self.trigger(true, level, word, lines),
+            Place::Trace(level) | Place::Resource(level) => {
+                self.trigger(takes_counters(place), level, word, lines)
+            }
         }
     }
 
@@ -270,8 +271,16 @@ impl Chip {
     fn sourced(mut self, index: usize, number: u32) -> Chip
         ensures { λ r. ⌜ r ≡ withSources (set (self .sources) index number) self ⌝ }
     {
-        if index < 8 {
-            self.sources[index] = number;
+        match index {
+            0 => self.sources[0] = number,
+            1 => self.sources[1] = number,
+            2 => self.sources[2] = number,
+            3 => self.sources[3] = number,
+            4 => self.sources[4] = number,
+            5 => self.sources[5] = number,
+            6 => self.sources[6] = number,
+            7 => self.sources[7] = number,
+            _ => {}
         }
         self
     }
@@ -393,6 +402,17 @@ impl Chip {
             source: self.source(line as usize),
             header: line + 8 * one(resource) + 16 * one(self.control.lost),
         }
+    }
+}
+
+// Whether a trigger's place is a Resource trigger's.
+fn takes_counters(place: Place) -> bool
+    ensures { λ r. ⌜ ((level : ℕ) → place ≡ Place.Trace level → r ≡ false) ⌝ }
+    ensures { λ r. ⌜ ((level : ℕ) → place ≡ Place.Resource level → r ≡ true) ⌝ }
+{
+    match place {
+        Place::Resource(_) => true,
+        _ => false,
     }
 }
 

@@ -103,7 +103,9 @@ impl Queue {
     {
         let held = self.held;
         if held < 8 {
-            self.places[held] = sample;
+            let mut places = self.places;
+            places[held] = sample;
+            self.places = places;
             self.held = held + 1;
         }
         self

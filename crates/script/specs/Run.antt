@@ -1,5 +1,5 @@
 -- Document 01, "Bench program": the records of an input, one after the other, and the text they give.
-use Prim.Native.Nat.{ℕ, zero, suc, _*_, _/_, min}
+use Prim.Native.Nat.{ℕ, zero, suc, _+_, _*_, _/_, min}
 use mathlib.Core.List.{List, [], _++_}
 use lib.ListN.{drop, length, take}
 use Rattle.chip.specs.declared.chip.Chip.{Chip}
@@ -7,6 +7,10 @@ use Rattle.script.specs.Line.{lineOf}
 use Rattle.script.specs.Record.{operationOf, runOf}
 use Rattle.script.specs.declared.block.Block.{Block}
 use Rattle.script.specs.declared.operation.Outcome.{Outcome}
+
+-- how many records an input of some bytes has: "Reply 9: .. or a last part of a record", so a last part is one
+abbrev pub recordCount : ℕ → ℕ
+recordCount size = (size + 11) / 12
 
 -- record i of an input, and what it does to a chip
 abbrev pub outcomeAt : List ℕ → ℕ → Chip → Outcome
@@ -27,9 +31,9 @@ unfoldable pub textAfter : ℕ → List ℕ → Chip → List ℕ
 textAfter zero input c = []
 textAfter (suc n) input c = textAfter n input c ++ lineAt n input c
 
--- a block takes the whole records that an input has and that a buffer of this size has room for
+-- a block takes the records that an input has and that a buffer of this size has room for
 abbrev pub blockCount : List ℕ → ℕ → ℕ
-blockCount input room = min (length input / 12) (room / 42)
+blockCount input room = min (recordCount (length input)) (room / 42)
 
 unfoldable pub blockOf : List ℕ → ℕ → Chip → Block
 blockOf input room c =

@@ -3,9 +3,8 @@ use super::line::put_line;
 use super::operation::decode;
 use super::operation::run;
 use chip::chip::Chip;
-
 ghost use mathlib.Core.Path.{_≡_};
-ghost use Rattle.script.specs.Run.{blockBuffer, blockOf};
+ghost use Rattle.script.specs.Run.{blockBuffer, blockOf, recordCount};
 ghost use lib.ListN.{length};
 ghost use Prim.Native.Nat.{min};
 
@@ -16,18 +15,19 @@ pub struct Block {
     pub written: usize,
 }
 
-// Runs the whole records of an input, as many as the buffer has room for at 42 bytes a line.
+// Runs the records of an input, a last part of one too, as many as the buffer has room for at 42 bytes a line.
 pub fn run_block(chip: Chip, input: &[u8], out: &mut [u8]) -> Block
     ensures { λ r. ⌜ r ≡ blockOf (now (input .entry)) (length (now (out .entry))) chip ⌝ }
     ensures { λ r. ⌜ now (out .exit) ≡ blockBuffer (now (input .entry)) (now (out .entry)) chip ⌝ }
 {
-    let count = least(input.len() / 12, out.len() / 42);
+    let count = least(record_count(input.len()), out.len() / 42);
     let mut state = chip;
     let mut at = 0;
     let mut i = 0;
     while i < count {
         let start = 12 * i;
-        let outcome = run(state, decode(&input[start..start + 12]));
+        let end = start + least(12, input.len() - start);
+        let outcome = run(state, decode(&input[start..end]));
         at = put_line(outcome.number, outcome.value, out, at);
         let next = outcome.chip;
         state = next;
@@ -38,6 +38,13 @@ pub fn run_block(chip: Chip, input: &[u8], out: &mut [u8]) -> Block
         records: count,
         written: at,
     }
+}
+
+// How many records a number of bytes has, a last part counted.
+fn record_count(size: usize) -> usize
+    ensures { λ r. ⌜ r ≡ recordCount size ⌝ }
+{
+    size / 12 + (size % 12 + 11) / 12
 }
 
 fn least(a: usize, b: usize) -> usize

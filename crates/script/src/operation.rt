@@ -2,9 +2,9 @@
 use chip::chip::Answer;
 use chip::chip::Chip;
 use chip::reply::Reply;
-
 ghost use mathlib.Core.Path.{_≡_};
-ghost use lib.ListN.{drop, length};
+ghost use Prim.Native.Nat.{_+_, _≤_, _<_, _^_};
+ghost use lib.ListN.{drop, length, take};
 ghost use Rattle.words.specs.Bytes.{number};
 ghost use Rattle.chip.specs.Reply.{replyNumber};
 ghost use Rattle.script.specs.Record.{byKind, events, nodes, operationOf, outcomeOf, runOf, ticks};
@@ -30,16 +30,16 @@ pub struct Outcome {
 }
 
 // The operation of a record: kind, address, lines, a zero byte, data.
-pub fn decode(record: &[u8]) -> Operation
-    ensures { λ r. ⌜ r ≡ operationOf (now (record .entry)) ⌝ }
+pub fn decode(bytes: &[u8]) -> Operation
+    ensures { λ r. ⌜ r ≡ operationOf (now (bytes .entry)) ⌝ }
 {
-    if record.len() != 12 {
+    if bytes.len() != 12 {
         return Operation::Bad;
     }
-    if record[3] != 0 {
+    if bytes[3] != 0 {
         return Operation::Bad;
     }
-    by_kind(record[0], record[1], record[2], word_of(record))
+    by_kind(bytes[0], bytes[1], bytes[2], word_of(bytes))
 }
 
 fn by_kind(kind: u8, address: u8, lines: u8, word: u64) -> Operation
@@ -85,21 +85,31 @@ fn events(word: u64) -> Operation
 }
 
 // The data of a record: its last eight bytes, low first.
-fn word_of(record: &[u8]) -> u64
-    requires { ⌜ length (now record) ≡ 12 ⌝ }
-    ensures { λ r. ⌜ r ≡ number (drop 4 (now (record .entry))) ⌝ }
+fn word_of(bytes: &[u8]) -> u64
+    requires { ⌜ length (now bytes) ≡ 12 ⌝ }
+    ensures { λ r. ⌜ r ≡ number (drop 4 (now (bytes .entry))) ⌝ }
 {
-    let a = record[4] as u64;
-    let b = record[5] as u64;
-    let c = record[6] as u64;
-    let d = record[7] as u64;
-    let e = record[8] as u64;
-    let f = record[9] as u64;
-    let g = record[10] as u64;
-    let h = record[11] as u64;
-    let low = a + 256 * b + 65536 * c + 16777216 * d;
-    let high = e + 256 * f + 65536 * g + 16777216 * h;
-    low + 4294967296 * high
+    quad(bytes, 4) + 4294967296 * quad(bytes, 8)
+}
+
+// The number of four bytes, low first.
+fn quad(bytes: &[u8], at: usize) -> u64
+    requires { ⌜ at + 4 ≤ length (now bytes) ⌝ }
+    ensures { λ r. ⌜ r ≡ number (take 4 (drop at (now (bytes .entry)))) ⌝ }
+    ensures { λ r. ⌜ r < 2 ^ 32 ⌝ }
+{
+    let a = wide(bytes[at]);
+    let b = wide(bytes[at + 1]);
+    let c = wide(bytes[at + 2]);
+    let d = wide(bytes[at + 3]);
+    a + 256 * b + 65536 * c + 16777216 * d
+}
+
+fn wide(byte: u8) -> u64
+    ensures { λ r. ⌜ r ≡ byte ⌝ }
+    ensures { λ r. ⌜ r < 256 ⌝ }
+{
+    byte as u64
 }
 
 // A record's step on the chip.
@@ -112,17 +122,17 @@ pub fn run(chip: Chip, operation: Operation) -> Outcome
             value: 0,
             number: 9,
         },
-        Operation::Reset => outcome(chip.hardware_reset()),
-        Operation::Write(address, word, lines) => outcome(chip.write(address, word, lines)),
-        Operation::Read(address) => outcome(chip.read(address)),
-        Operation::Ticks(count) => outcome(chip.timestamp_ticks(count)),
-        Operation::Nodes(count) => outcome(chip.node_ticks(count)),
-        Operation::Events(mask) => outcome(chip.external_events(mask)),
-        Operation::Send => outcome(chip.send()),
+        Operation::Reset => numbered(chip.hardware_reset()),
+        Operation::Write(address, word, lines) => numbered(chip.write(address, word, lines)),
+        Operation::Read(address) => numbered(chip.read(address)),
+        Operation::Ticks(count) => numbered(chip.timestamp_ticks(count)),
+        Operation::Nodes(count) => numbered(chip.node_ticks(count)),
+        Operation::Events(mask) => numbered(chip.external_events(mask)),
+        Operation::Send => numbered(chip.send()),
     }
 }
 
-fn outcome(answer: Answer) -> Outcome
+fn numbered(answer: Answer) -> Outcome
     ensures { λ r. ⌜ r ≡ outcomeOf answer ⌝ }
 {
     let chip = answer.chip;

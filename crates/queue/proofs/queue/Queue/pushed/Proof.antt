@@ -4,20 +4,20 @@ use borrow.Author.Tests.{lt-ltb, le-ltb}
 use Rattle.queue.proofs.queue.Queue.pushed.Statement.{statement}
 use Rattle.queue.proofs.queue.Queue.pushed.Tie as tie
 
-mul-sample : tie.Need-mul-sample
-mul-sample c = search needs
+mul-places : tie.Need-mul-places
+mul-places c = search needs
 
-element-set-from-sample : tie.Need-element-set-from-sample
-element-set-from-sample c = search needs
+array-set-from-places : tie.Need-array-set-from-places
+array-set-from-places c = search needs
 
 add-self : tie.Need-add-self
 add-self c = search needs
 
 returns : tie.Need-returns
-returns c = rw (lt-ltb (c .before .args .t1 .held) 8 (search needs))
+returns c = rw (lt-ltb (c .before .before .args .self .held) 8 (search needs))
 
 returns-2 : tie.Need-returns-2
-returns-2 c = rw (le-ltb (c .before .args .t1 .held) 8 (search needs))
+returns-2 c = rw (le-ltb (c .before .args .self .held) 8 (search needs))
 
 pub pushed-spec : {M : Type 1} → statement M
-pushed-spec = tie.close (tie.spec mul-sample element-set-from-sample add-self returns returns-2)
+pushed-spec = tie.close (tie.spec mul-places array-set-from-places add-self returns returns-2)

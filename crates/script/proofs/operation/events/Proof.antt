@@ -1,0 +1,19 @@
+-- `script::operation::events` meets its contract: the test decides. Assumes nothing.
+use borrow.Author.Needs.{needs}
+use mathlib.Core.Path.{_≡_, refl, sym, ap, ap₂, _∙_}
+use Prim.Native.Nat.{_^_}
+use borrow.Author.Tests.{lt-ltb, le-ltb}
+use Rattle.script.proofs.operation.events.Statement.{statement}
+use Rattle.script.proofs.operation.events.Tie as tie
+
+cast-t3 : tie.Need-cast-t3
+cast-t3 c = search needs
+
+returns : tie.Need-returns
+returns c = rw (lt-ltb (c .before .args .word) (2 ^ 16) (search needs))
+
+returns-2 : tie.Need-returns-2
+returns-2 c = rw (le-ltb (c .before .args .word) (2 ^ 16) (search needs))
+
+pub events-spec : {M : Type 1} → statement M
+events-spec = tie.close (tie.spec cast-t3 returns returns-2)

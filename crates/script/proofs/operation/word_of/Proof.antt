@@ -1,0 +1,32 @@
+-- `script::operation::word_of` meets its contract: eight bytes are four and then four. Assumes nothing.
+use borrow.Author.Needs.{needs}
+use mathlib.Core.Path.{_≡_, refl, sym, ap, ap₂, _∙_}
+use Prim.Native.Nat.{ℕ, _+_, _*_, _^_}
+use native.Mathlib.Omega.{arith}
+use mathlib.Core.List.{List, _++_}
+use lib.ListN.{drop, length, take, take-append-drop, length-drop}
+use Rattle.words.specs.Bytes.{number}
+use Rattle.script.proofs.RecordLaws.{eight-bytes}
+use Rattle.script.proofs.operation.word_of.Statement.{statement}
+use Rattle.script.proofs.operation.word_of.Tie as tie
+
+quad-requires : tie.Need-quad-requires
+quad-requires c κs = search needs
+
+quad-requires-2 : tie.Need-quad-requires-2
+quad-requires-2 c κs = search needs
+
+mul-result : tie.Need-mul-result
+mul-result c = search needs
+
+add-result : tie.Need-add-result
+add-result c = search needs
+
+returns : tie.Need-returns
+returns c =
+    let l = c .before .before .before .args .bytes .now in
+    ap₂ (λ (x y : ℕ). x + 2 ^ 32 * y) (c .before .quad .ensures .0) (c .quad2 .ensures .0)
+    ∙ sym (eight-bytes l (search needs))
+
+pub word-of-spec : {M : Type 1} → statement M
+word-of-spec = tie.close (tie.spec quad-requires quad-requires-2 mul-result add-result returns)
