@@ -62,6 +62,20 @@ def resource_samples(chance):
         yield record(SEND)
 
 
+def mixed(chance):
+    """One operation at a time: of ten records a trigger, a tick record, a read and seven sends, in any order."""
+    for _ in range(20):
+        choice = chance.randrange(10)
+        if choice == 0:
+            yield record(WRITE, 96 + chance.randrange(16), 1 << chance.randrange(8), chance.getrandbits(64))
+        elif choice == 1:
+            yield record(TICKS, 0, 0, chance.randrange(1000))
+        elif choice == 2:
+            yield record(READ, chance.choice((1, 2, 6, 32, 33)))
+        else:
+            yield record(SEND)
+
+
 def write_file(path, rounds, records):
     """A file of about so many records: the settings, then two hundred rounds over and over."""
     chance = random.Random(1)
@@ -110,7 +124,7 @@ def main():
         bench, twin = f"{folder}/bench", f"{folder}/twin"
         subprocess.run([f"{ROOT}/perf/native-build", bench], check=True, stdout=sys.stderr)
         subprocess.run(["rustc", "--edition", "2021", "-O", "-o", twin, f"{ROOT}/twin/main.rs"], check=True)
-        for name, rounds in (("Trace", trace), ("Resource", resource_samples)):
+        for name, rounds in (("Trace", trace), ("Resource", resource_samples), ("Mixed", mixed)):
             path, half, small = f"{folder}/all", f"{folder}/half", f"{folder}/small"
             count = write_file(path, rounds, records)
             write_file(half, rounds, records // 2)
