@@ -2,3 +2,4 @@
 pub mod BlockLaws
 pub mod LineLaws
 pub mod RecordLaws
+pub mod Theorems

@@ -31,6 +31,13 @@ unfoldable pub textAfter : ℕ → List ℕ → Chip → List ℕ
 textAfter zero input c = []
 textAfter (suc n) input c = textAfter n input c ++ lineAt n input c
 
+-- the chip after a whole input, and the input's whole text, which stands behind the heading
+unfoldable pub chipOf : List ℕ → Chip → Chip
+chipOf input c = chipAfter (recordCount (length input)) input c
+
+unfoldable pub textOf : List ℕ → Chip → List ℕ
+textOf input c = textAfter (recordCount (length input)) input c
+
 -- a block takes the records that an input has and that a buffer of this size has room for
 abbrev pub blockCount : List ℕ → ℕ → ℕ
 blockCount input room = min (recordCount (length input)) (room / 42)
