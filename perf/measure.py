@@ -128,7 +128,7 @@ def main():
             path, half, small = f"{folder}/all", f"{folder}/half", f"{folder}/small"
             count = write_file(path, rounds, records)
             write_file(half, rounds, records // 2)
-            few = write_file(small, rounds, 0)
+            few = write_file(small, rounds, 1_000_000)
             times = [(seconds(bench, path), seconds(twin, path)) for _ in range(RUNS)]
             ours, theirs = (min(column) for column in zip(*times))
             print(f"{name}: {count} records, bench {ours:.2f} s, twin {theirs:.2f} s, ratio {ours / theirs:.2f}")
