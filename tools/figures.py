@@ -82,7 +82,7 @@ def main():
     for line in compared:
         print(line.strip() + '\n')
     if real:
-        print(f'Whole gate, by the log's own clock: {int(real.group(1)) * 60 + float(real.group(2)):.0f} s on two cores.\n')
+        print(f'Whole gate, by the clock of the log: {int(real.group(1)) * 60 + float(real.group(2)):.0f} s on two cores.\n')
     if axioms:
         print(f'Axioms that the last lines of the checks count: {", ".join(axioms)}: the contracts of the C library\'s calls that programs')
         print('make through the kit\'s `io`. No other crate counts any.\n')
