@@ -3,7 +3,6 @@ use super::same;
 use super::show;
 use chip::chip::Answer;
 use chip::chip::Chip;
-ghost use Prim.Native.Nat.{_≤_};
 
 // What is gone through.
 pub enum Trial {
@@ -23,9 +22,8 @@ struct Span {
     same: bool,
 }
 
-pub fn sweep(chip: Chip, kind: Trial, first: u64, last: u64)
-    requires { ⌜ first ≤ last ⌝ }
-{
+// The answers at the addresses or lines from the first to the last one; the first is tried in any case.
+pub fn sweep(chip: Chip, kind: Trial, first: u64, last: u64) {
     let mut span = span_at(chip, kind, first);
     let mut at = first;
     while at < last {

@@ -67,18 +67,23 @@ pub fn send(chip: Chip) -> Chip {
     line(chip, chip.send())
 }
 
-// The first `room` places of a buffer are lent; the line has all of it.
-pub fn send_into(chip: Chip, room: usize) -> Chip
-    requires { ⌜ room ≤ 100 ⌝ }
-{
+// The first `room` places of a buffer of 100 are lent, or all of them; the line has the whole buffer.
+pub fn send_into(chip: Chip, room: usize) -> Chip {
     let mut buffer = [MARK; 100];
-    let answer = send_first(chip, &mut buffer, room);
-    show::field(b"send into ", room as u64);
+    let size = at_most_100(room);
+    let answer = send_first(chip, &mut buffer, size);
+    show::field(b"send into ", size as u64);
     let next = told(chip, answer);
     show::text(b", buffer");
     show::words(&buffer);
     show::text(b"\n");
     next
+}
+
+fn at_most_100(n: usize) -> usize
+    ensures { λ r. ⌜ r ≤ 100 ⌝ }
+{
+    if n < 100 { n } else { 100 }
 }
 
 fn send_first(chip: Chip, buffer: &mut [u16], room: usize) -> Answer

@@ -5,7 +5,7 @@ use Rattle.chip_test.proofs.addresses.sweep.Statement.{statement}
 use Rattle.chip_test.proofs.addresses.sweep.Tie as tie
 
 abbrev Inv-loop : tie.InvT-loop
-Inv-loop chip kind first last span₀ at₀ span at = at ≤ last
+Inv-loop chip kind first last span₀ at₀ span at = 0 ≤ at
 
 abbrev μ-loop : tie.MeasureT-loop
 μ-loop chip kind first last span₀ at₀ span at = last - at
