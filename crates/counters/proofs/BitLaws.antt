@@ -1,4 +1,5 @@
--- Laws of the bits of a number: of what two numbers have in common, and of the other sixteen bits. Assumes nothing.
+-- Laws of the bits of a number: of what two numbers have in common, of the bits that a number lacks, and that the mask of due events is
+-- the table of MUX fields, bit by bit. Assumes nothing.
 use Prim.Native.Nat.{ℕ, zero, suc, _+_, _-_, _*_, _/_, _%_, _^_, _≤_, _<_, min}
 use native.Mathlib.Nat.{mod-lt, zero-lt-suc, div-one, div-div-eq-div-mul, pow-suc, pow-succ', min-le-left, lt-of-le-of-lt, lt-of-lt-of-le, div-eq-of-lt, not-suc-le-zero, le-of-suc-le-suc}
 use native.Mathlib.Omega.{arith}

@@ -1,4 +1,4 @@
--- Document 01, "Counters": sixteen, 32 bits, wrapping, with a shadow each.
+-- Document 01, "Counters" and "Address map" 10: sixteen, 32 bits, wrapping, with a shadow each.
 use Prim.Native.Nat.{ℕ, suc, _+_, _/_, _%_, _^_}
 use mathlib.Core.Bool.{Bool, cond}
 use mathlib.Core.List.{List, [], _∷_}

@@ -1,4 +1,5 @@
--- Document 01, "Counters" and "Address map" 8, 11 and 12: which counters an event is due to.
+-- Document 01, "Counters", "External events" of "The chip's operations", and "Address map" 8, 11, 12 and 32 to 47: which counters an
+-- event is due to.
 use Prim.Native.Nat.{ℕ, _+_, _-_, _*_, _/_, _%_, _^_}
 use mathlib.Core.Bool.{Bool, cond, not, _&&_}
 use lib.Bits.{bitAnd, bitOr}

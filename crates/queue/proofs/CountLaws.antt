@@ -1,5 +1,5 @@
--- How many words several sends give, and that those of the first sample come one after the other: along the words sent. Assumes
--- nothing.
+-- How many words several sends give, and that those of the first sample come one after the other: by induction on how many are sent.
+-- Assumes nothing.
 use Prim.Native.Nat.{ℕ, zero, suc, _+_, _≤_, _<_, suc-le-suc, zero-le}
 use native.Mathlib.Nat.{add-zero, le-of-suc-le-suc, not-suc-le-zero}
 use native.Mathlib.Numerals.{add-one}

@@ -15,7 +15,7 @@ use lib.Dec.{eqb}
 use Rattle.queue.specs.Queue.{anyResource, heldSample, zeroHeld}
 use Rattle.queue.specs.declared.queue.Held.{Held}
 
--- a list of eight is its eight elements, and what follows the first are the other seven
+-- the last seven of eight, and one more, are what is left without the first, and one more
 pub seven : (hs : List Held) (d : Held) → length hs ≡ 8 → getD hs 1 d ∷ getD hs 2 d ∷ getD hs 3 d ∷ getD hs 4 d ∷ getD hs 5 d ∷ getD hs 6 d ∷ getD hs 7 d ∷ d ∷ [] ≡ drop 1 hs ++ (d ∷ [])
 seven (a ∷ b ∷ c ∷ e ∷ f ∷ g ∷ h ∷ i ∷ []) d p = refl
 seven [] d p = absurd (suc-ne-zero _ (sym p))

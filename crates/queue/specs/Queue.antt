@@ -1,4 +1,4 @@
--- Document 01, "Triggers and the queue": what is held, and sending it.
+-- Document 01, "Triggers and the queue" and, of sending, "The chip's operations": what is held, and sending it.
 use Prim.Native.Nat.{ℕ, zero, suc, _+_, _-_}
 use mathlib.Core.Bool.{Bool, true, false, cond, _&&_, _||_}
 use mathlib.Core.List.{List, [], _∷_, _++_}
@@ -11,13 +11,14 @@ use Rattle.queue.specs.declared.queue.Queue.{Queue}
 use Rattle.queue.specs.declared.queue.Sent.{Sent}
 use Rattle.queue.specs.declared.queue.SentMany.{SentMany}
 
+-- "every part becomes zero": a place and a queue with nothing in them
 abbrev pub zeroHeld : Held
 zeroHeld = record { user = 0; stamp = 0; source = 0; header = 0 }
 
 abbrev pub emptyQueue : Queue
 emptyQueue = record { places = replicate 8 zeroHeld; held = 0; sent = 0 }
 
--- the sample that a place holds: a Resource sample's counters are the shadows' copy
+-- the sample that a place holds: "a Resource trigger also copies all counters to the shadows", and there they stay while it is held
 abbrev pub heldSample : List ℕ → Held → Sample
 heldSample shadows h =
     record {
@@ -47,7 +48,7 @@ firstHeld q = getD (q .places) 0 zeroHeld
 abbrev pub firstCount : Queue → ℕ
 firstCount q = sampleLength firstChip (resource (firstHeld q .header))
 
--- the counts that operations leave: "record outside its bounds (queue counts)"
+-- the counts that operations leave: "Reply numbers", "The bounds for 15 .. (queue counts, places, ..)"
 abbrev pub insideQueue : Queue → Bool
 insideQueue q = leb (q .held) 8 && cond (eqb (q .held) 0) (eqb (q .sent) 0) (ltb (q .sent) (firstCount q))
 
@@ -66,6 +67,7 @@ shifted q = record { places = drop 1 (q .places) ++ (zeroHeld ∷ []); held = q 
 abbrev pub advanced : Queue → Queue
 advanced q = cond (ltb (q .sent + 1) (firstCount q)) (record { places = q .places; held = q .held; sent = q .sent + 1 }) (shifted q)
 
+-- one word; with nothing held it is a word of an empty place and means nothing, so whoever sends asks first
 abbrev pub sendOne : List ℕ → Queue → Sent
 sendOne shadows q = record { queue = advanced q; word = nextWord shadows q }
 
@@ -79,7 +81,7 @@ unfoldable pub sendQueue : ℕ → Queue → Queue
 sendQueue zero q = q
 sendQueue (suc n) q = cond (eqb (q .held) 0) q (sendQueue n (advanced q))
 
--- "as many words as it has places or as are left; .. it returns how many"
+-- "as many words as it has places or as are left, ..; it returns how many"
 unfoldable pub sendMany : ℕ → List ℕ → Queue → SentMany
 sendMany room shadows q = record { queue = sendQueue room q; count = length (sendWords room shadows q) }
 

@@ -76,7 +76,8 @@ impl Queue {
         any_resource(places, held)
     }
 
-    // Whether the counts are ones that an operation can leave: at most eight held, and fewer words of the first sent than it has.
+    // Whether the counts are ones that an operation can leave: at most eight held, fewer words of the first sent than it has, and none
+    // sent where none is held.
     pub fn inside(self) -> bool
         ensures { λ r. ⌜ r ≡ insideQueue self ⌝ }
     {

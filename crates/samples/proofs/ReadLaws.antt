@@ -53,13 +53,13 @@ pub number-step : (bs : List ℕ) (i k : ℕ) → i < length bs → number (take
 unfolding number
 number-step bs i k h = ap (λ (l : List ℕ). number (take (suc k) l)) (drop-cons bs i 0 h)
 
--- k bytes give a number below 256 ^ k
 pub take-below : (k : ℕ) (bs : List ℕ) → ((i : ℕ) → getD bs i 0 < 256) → (i : ℕ) → getD (take k bs) i 0 < 256
 take-below zero bs h i = zero-lt-suc 255
 take-below (suc k) [] h i = zero-lt-suc 255
 take-below (suc k) (b ∷ bs) h zero = h zero
 take-below (suc k) (b ∷ bs) h (suc i) = take-below k bs (λ j. h (suc j)) i
 
+-- k bytes give a number below 256 ^ k
 pub number-take : (k : ℕ) (bs : List ℕ) → ((i : ℕ) → getD bs i 0 < 256) → number (take k bs) < 256 ^ k
 number-take k bs h =
     let short : length (take k bs) ≤ k = omega (arith, length-take k bs) in

@@ -74,7 +74,7 @@ module _ (s : Sample) (i : ℕ) where
   pub sample-trace : 16 ≤ i → resource (s .header) ≡ false → getD (sampleBytes firstChip s) i 0 ≡ 0
   sample-trace h r = after h ∙ ap (λ (b : Bool). getD (cond b (counterBytes (s .counters)) []) (i - 16) 0) r
 
--- how many bytes and words a sample has, whatever the edition
+-- how many bytes and words a sample has, whatever the widths
 module _ (w : Widths) (s : Sample) (sixteen : length (s .counters) ≡ 16) where
   pub bytes-length : length (sampleBytes w s) ≡ sampleLength w (resource (s .header))
   unfolding sampleBytes counterBytes

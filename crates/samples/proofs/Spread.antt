@@ -1,5 +1,5 @@
--- Laws of fields laid one after the other, over their widths: what stands at a place, how many bytes there are, that each is
--- below 256, and that the numbers are read back. Assumes nothing.
+-- Laws of fields laid one after the other, over their widths: what stands at a place, how many bytes there are, and that each
+-- is below 256. Assumes nothing.
 use Prim.Native.Nat.{ℕ, zero, suc, _+_, _-_, _*_, _/_, _%_, _^_, _≤_, _<_}
 use native.Mathlib.Nat.{zero-lt-suc, le-of-suc-le-suc, not-suc-le-zero, add-sub-of-le, zero-div, suc-ne-zero, suc-inj, div-eq-of-lt, mod-eq-of-lt, div-eq-sub-div, mod-eq-sub-mod}
 use native.Mathlib.Numerals.{add-one}

@@ -1,4 +1,4 @@
--- Demand 2 of samples and words, for every edition's widths: reading a written sample gives it back, and words that are
+-- Demand 2 of samples and words, for all widths of Timestamp and user data: reading a written sample gives it back, and words that are
 -- accepted are what writing their sample gives. Assumes nothing.
 use Prim.Native.Nat.{ℕ, zero, suc, _+_, _-_, _≤_, _<_, _%_}
 use native.Mathlib.Nat.{zero-add, mod-eq-of-lt, lt-trans}

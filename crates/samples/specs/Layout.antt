@@ -1,4 +1,4 @@
--- Document 01, "Sample and words": the fields of a sample in sending order, over the edition's widths.
+-- Document 01, "Sample and words": the fields of a sample in sending order, over the widths of Timestamp and user data.
 use Prim.Native.Nat.{ℕ, _+_, _/_, _%_}
 use mathlib.Core.Bool.{Bool, cond}
 use mathlib.Core.List.{List, [], _∷_, _++_}
@@ -8,7 +8,7 @@ use Rattle.words.specs.Bytes.{lowBytes}
 use Rattle.words.specs.Word.{wordsOf}
 use Rattle.samples.specs.declared.sample.Sample.{Sample}
 
--- what differs between the editions of the chip: how many bytes of Timestamp and of user data a sample has
+-- the widths that the laws are over: how many bytes of Timestamp and of user data a sample has
 pub record Widths : Type 0 where
   pub stampBytes : ℕ
   pub userBytes : ℕ

@@ -75,7 +75,7 @@ wanted w ws = sampleLength w (resource (byteOf (getD ws 0 0)))
 unfoldable pub readPart : Widths → List ℕ → Reading
 readPart w ws = readAnswer (scan (wanted w ws) 0 ws) (wanted w ws) (sampleOf w (map byteOf ws))
 
--- document 01's number for each answer
+-- document 01's number for each refusal; 0, which it leaves open, for a sample
 abbrev pub answerNumber : Answer → ℕ
 answerNumber Good = 0
 answerNumber Unfinished = 20

@@ -38,7 +38,7 @@ writeBuffer w s out =
     let n = sampleLength w (resource (s .header)) in
     cond (writable w s) (cond (leb n (length out)) (sampleWords w s ++ drop n out) out) out
 
--- document 01's number for each answer, and its count
+-- document 01's number for each refusal, 0, which it leaves open, for a written sample; and the count
 abbrev pub writtenNumber : Written → ℕ
 writtenNumber (Words n) = 0
 writtenNumber Unfit = 17

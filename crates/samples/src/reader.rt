@@ -193,7 +193,7 @@ fn number_at(part: &[u16], start: usize, size: usize) -> u64
     sum
 }
 
-// Document 01's number of an answer: 0, or 20 to 24.
+// The number of an answer: document 01's 20 to 24, and 0 for a sample.
 pub fn answer_number(answer: Answer) -> u64
     ensures { λ r. ⌜ r ≡ answerNumber answer ⌝ }
 {

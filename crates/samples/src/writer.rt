@@ -15,7 +15,7 @@ ghost use Rattle.samples.specs.Write.{allZero, writable, writeAnswer, wr
 pub enum Written {
     // How many words were written.
     Words(usize),
-    // A field above its width, a header bit that must be zero, or a Trace sample with counters.
+    // A field above its width, header bits 5 to 7 set, or a Trace sample whose counters aren't all zero.
     Unfit,
     // A buffer too short.
     Short,
@@ -83,7 +83,7 @@ fn fill(sample: Sample, count: usize, out: &mut [u16])
     }
 }
 
-// Document 01's number of an answer: 0, 17 or 18.
+// The number of an answer: document 01's 17 and 18, and 0 for a written sample.
 pub fn written_number(answer: Written) -> u64
     ensures { λ r. ⌜ r ≡ writtenNumber answer ⌝ }
 {

@@ -9,7 +9,7 @@ use lib.Count.{onesIn}
 unfoldable pub oddOnes : ℕ → Bool
 oddOnes w = eqb (onesIn 9 w % 2) 1
 
--- the parity bit that gives a byte an odd number of ones
+-- the parity bit that, together with its byte, has an odd number of ones
 unfoldable pub parityOf : ℕ → ℕ
 parityOf b = (onesIn 8 b + 1) % 2
 
@@ -18,7 +18,7 @@ abbrev pub markBit : Bool → ℕ
 markBit true = 1
 markBit false = 0
 
--- "A word is a number of ten bits: data bits 0..7, parity bit 8, end mark bit 9": the word of a byte
+-- "A word is a number of ten bits ..: data bits 0..7, parity bit 8, end mark bit 9": the word of a byte
 unfoldable pub wordOf : Bool → ℕ → ℕ
 wordOf last b = b + 256 * parityOf b + 512 * markBit last
 

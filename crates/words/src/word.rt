@@ -11,7 +11,7 @@ pub fn word(byte: u8, last: bool) -> u16
     if last { plain + 512 } else { plain }
 }
 
-// Whether a place of 16 bits holds more than ten.
+// Whether a number of 16 bits is above 1023, more than ten bits hold.
 pub fn too_large(word: u16) -> bool
     ensures { λ r. ⌜ r ≡ tooLarge word ⌝ }
 {
