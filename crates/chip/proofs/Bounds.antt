@@ -3,7 +3,7 @@
 use Prim.Native.Nat.{ℕ, zero, suc, _+_, _%_, _^_, _<_}
 use native.Mathlib.Nat.{mod-lt, zero-lt-suc}
 use native.Mathlib.Omega.{arith}
-use mathlib.Core.Path.{_≡_, refl, ap, _∙_}
+use mathlib.Core.Path.{_≡_, refl, sym, ap, _∙_, subst}
 use mathlib.Core.Bool.{Bool, true, false, cond, not, _&&_, and-false}
 use lib.Dec.{ltb, eqb}
 use lib.ListN.{getD, length}
@@ -19,7 +19,7 @@ use Rattle.queue.specs.Queue.{advanced, busy, insideQueue, nextWord, pushed, se
 use Rattle.queue.specs.declared.queue.Held.{Held}
 use Rattle.queue.specs.declared.queue.Queue.{Queue}
 use Rattle.queue.proofs.BoundLaws.{advance-bounds, advance-places, push-bounds, push-places, send-bounds, send-places}
-use Rattle.chip.specs.Chip.{afterTicks, done, externalEvents, fateOf, fresh, inside, lineOf, nodeTicks, oneLine, read, readAt, readCounter, refuse, sampleNow, send, sendInto, sendNow, softReset, takeSample, timestampTicks, trigger, triggerBy, withBank, withControl, withQueue, write, writeAt}
+use Rattle.chip.specs.Chip.{afterTicks, done, externalEvents, fateOf, fresh, inside, lineOf, nodeTicks, oneLine, read, readAt, readCounter, replied, sampleNow, send, sendInto, sendNow, takeSample, timestampTicks, trigger, triggerBy, withBank, withControl, withQueue, withStamp, write, writeAt}
 use Rattle.chip.specs.Control.{waited}
 use Rattle.chip.specs.Fate.{Fate, isOff, isFiltered, isLost, isTold, isTaken}
 use Rattle.chip.specs.Operation.{Operation, opReset, opWrite, opRead, opTicks, opNodes, opEvents, opSend, opFill, step}
@@ -34,23 +34,12 @@ use Rattle.chip.specs.declared.control.Control.{Control}
 use Rattle.chip.specs.declared.place.Place.{Place}
 use Rattle.chip.specs.declared.place.Place.the-variants.{Beyond, Nowhere, Reset, Csr, Timestamp, Filter, Waits, Overruns, Mux, Clear, Enable, Disable, Source, Counter, Trace, Resource}
 use Rattle.chip.specs.declared.reply.Reply.the-variants.{Lines, NoWord, Wait, Busy, Outside}
+use Rattle.chip.proofs.ChipLaws.{by-bounds, inside-by, inside-phase, inside-queue, inside-stamp}
 use Rattle.chip.proofs.Replies.{reply-15}
-use Rattle.chip.proofs.WidthLaws.{within-each, within-set}
+use Rattle.chip.proofs.Resets.{reset-record}
+use Rattle.chip.proofs.WidthLaws.{each-within, within-set}
 
--- ---- what the bounds say of each part
-
-module _ (c : Chip) (h : inside c ≡ true) where
-  pub inside-queue : insideQueue (c .queue) ≡ true
-  inside-queue = both-left _ _ h
-
-  pub inside-phase : c .switches .phase < 10
-  inside-phase = ltb-true _ _ (both-left _ _ (both-right (insideQueue (c .queue)) _ h))
-
-  pub inside-stamp : c .stamp < 2 ^ 56
-  inside-stamp = ltb-true _ _ (both-right (ltb (c .switches .phase) 10) _ (both-right (insideQueue (c .queue)) _ h))
-
-pub inside-by : (c : Chip) → insideQueue (c .queue) ≡ true → c .switches .phase < 10 → c .stamp < 2 ^ 56 → inside c ≡ true
-inside-by c q p s = λ i. q i && (lt-ltb (c .switches .phase) 10 p i && lt-ltb (c .stamp) (2 ^ 56) s i)
+-- ---- the bounds of a record with another part
 
 -- another queue inside its bounds
 inside-queued : (c : Chip) (q : Queue) → inside c ≡ true → insideQueue q ≡ true → inside (withQueue q c) ≡ true
@@ -73,13 +62,12 @@ fresh-shaped = record { places = refl; sources = refl; values = refl; shadows = 
 
 -- ---- "and every operation keeps them"
 
--- a statement on the next record, where 15 comes first
-guarded-keeps : (P : Chip → Type 0) (b : Bool) (c : Chip) (a : Answer) → P c → P (a .chip) → P (cond b a (refuse Outside c) .chip)
-guarded-keeps P true c a p q = q
-guarded-keeps P false c a p q = p
+-- a statement on the next record
+guarded-keeps : (P : Chip → Type 0) (b : Bool) (c : Chip) (a : Answer) → P c → P (a .chip) → P (cond b a (replied Outside c) .chip)
+guarded-keeps P b c a p q = by-bounds (λ t x. P (x .chip)) b c a q p
 
 -- a trigger keeps what a lost one, one told to wait and a taken one keep
-trigger-keeps : (P : Chip → Type 0) (r o : Bool) (f : Fate) (line word : ℕ) (c : Chip) → P c → ((k : Control) → P (withControl k c)) → P (takeSample r line word c) → P (cond o (triggerBy f r line word c) (refuse Lines c) .chip)
+trigger-keeps : (P : Chip → Type 0) (r o : Bool) (f : Fate) (line word : ℕ) (c : Chip) → P c → ((k : Control) → P (withControl k c)) → P (takeSample r line word c) → P (cond o (triggerBy f r line word c) (replied Lines c) .chip)
 unfolding triggerBy
 trigger-keeps P r false f line word c p k t = p
 trigger-keeps P r true isOff line word c p k t = p
@@ -106,7 +94,7 @@ read-keeps P Disable c h k s = h
 read-keeps P (Source i) c h k s = h
 read-keeps P (Counter i) c h k s = go (busy (c .queue)) (c .control .readwait)
   where
-    go : (b w : Bool) → P (cond b (cond w (refuse Wait (withControl (waited (c .control)) c)) (record { chip = c; value = 2 ^ 63; reply = Busy })) (done (getD (c .bank .values) i 0) (withBank (copied (c .bank)) c)) .chip)
+    go : (b w : Bool) → P (cond b (cond w (replied Wait (withControl (waited (c .control)) c)) (record { chip = c; value = 2 ^ 63; reply = Busy })) (done (getD (c .bank .values) i 0) (withBank (copied (c .bank)) c)) .chip)
     go true true = k _
     go true false = h
     go false w = s
@@ -118,7 +106,7 @@ write-inside : (p : Place) (word lines : ℕ) (c : Chip) → inside c ≡ true �
 unfolding writeAt trigger
 write-inside Beyond word lines c h = h
 write-inside Nowhere word lines c h = h
-write-inside Reset word lines c h = inside-by (softReset c) refl (omega arith) (inside-stamp c h)
+write-inside Reset word lines c h = ap inside (reset-record c) ∙ inside-by (withStamp (c .stamp) fresh) refl (omega arith) (inside-stamp c h)
 write-inside Csr word lines c h = h
 write-inside Timestamp word lines c h = h
 write-inside Filter word lines c h = h
@@ -151,7 +139,7 @@ keeps-inside (opNodes k) c h = guarded-keeps (λ d. inside d ≡ true) (inside c
 keeps-inside (opEvents mask) c h = guarded-keeps (λ d. inside d ≡ true) (inside c) c (done 0 (withBank (signalled mask (c .switches) (c .bank)) c)) h h
 keeps-inside opSend c h = guarded-keeps (λ d. inside d ≡ true) (inside c) c (sendNow c) h (go (eqb (c .queue .held) 0) refl)
   where
-    go : (n : Bool) → eqb (c .queue .held) 0 ≡ n → inside (cond n (refuse NoWord c) (done (nextWord (c .bank .shadows) (c .queue)) (withQueue (advanced (c .queue)) c)) .chip) ≡ true
+    go : (n : Bool) → eqb (c .queue .held) 0 ≡ n → inside (cond n (replied NoWord c) (done (nextWord (c .bank .shadows) (c .queue)) (withQueue (advanced (c .queue)) c)) .chip) ≡ true
     go true e = h
     go false e = inside-queued c (advanced (c .queue)) h (advance-bounds (c .queue) (eqb-false (c .queue .held) 0 e) (inside-queue c h))
 keeps-inside (opFill room) c h =
@@ -168,7 +156,7 @@ clear-below true v h = omega arith
 clear-below false v h = h
 
 counting-in : (f : ℕ → Bool) (k : ℕ) (b : Bank) → within counterWidths (b .values) ≡ true → within counterWidths (counting f k b .values) ≡ true
-counting-in f k b e = within-each 4 16 (λ i v. cond (f i) (grown v k) v) 0 (b .values) (λ j v h. grow-below (f j) v k h) e
+counting-in f k b e = each-within 4 16 (λ i v. cond (f i) (grown v k) v) 0 (b .values) (λ j v h. grow-below (f j) v k h) e
 
 fired-in : (t : Bool) (i : ℕ) (b : Bank) → within counterWidths (b .values) ≡ true → within counterWidths (cond t (bumped i b) b .values) ≡ true
 fired-in true i b e = within-set 4 16 (b .values) i (grown (getD (b .values) i 0) 1) e (omega arith)
@@ -205,7 +193,7 @@ write-shaped : (p : Place) (word lines : ℕ) (c : Chip) → Shaped c → Shaped
 unfolding writeAt trigger
 write-shaped Beyond word lines c s = s
 write-shaped Nowhere word lines c s = s
-write-shaped Reset word lines c s = fresh-shaped
+write-shaped Reset word lines c s = subst Shaped (sym (reset-record c)) fresh-shaped
 write-shaped Csr word lines c s = s
 write-shaped Timestamp word lines c s = s
 write-shaped Filter word lines c s = s
@@ -214,7 +202,7 @@ write-shaped Overruns word lines c s = s
 write-shaped Mux word lines c s = s
 write-shaped Clear word lines c s =
     shaped-bank c (cleared (word % 2 ^ 16) (c .bank)) s
-    (within-each 4 16 (λ i v. cond (bit (word % 2 ^ 16) i) 0 v) 0 (c .bank .values) (λ j v h. clear-below (bit (word % 2 ^ 16) j) v h) (s .values))
+    (each-within 4 16 (λ i v. cond (bit (word % 2 ^ 16) i) 0 v) 0 (c .bank .values) (λ j v h. clear-below (bit (word % 2 ^ 16) j) v h) (s .values))
     (s .shadows)
 write-shaped Enable word lines c s = s
 write-shaped Disable word lines c s = s
@@ -253,7 +241,7 @@ keeps-shaped (opEvents mask) c s =
     (counting-shaped (λ i. bit mask i && due External (c .switches) i) 1 c s)
 keeps-shaped opSend c s = guarded-keeps Shaped (inside c) c (sendNow c) s (go (eqb (c .queue .held) 0))
   where
-    go : (n : Bool) → Shaped (cond n (refuse NoWord c) (done (nextWord (c .bank .shadows) (c .queue)) (withQueue (advanced (c .queue)) c)) .chip)
+    go : (n : Bool) → Shaped (cond n (replied NoWord c) (done (nextWord (c .bank .shadows) (c .queue)) (withQueue (advanced (c .queue)) c)) .chip)
     go true = s
     go false = shaped-queue c (advanced (c .queue)) s (advance-places (c .queue) (s .places))
 keeps-shaped (opFill room) c s =
@@ -264,13 +252,8 @@ keeps-shaped (opFill room) c s =
 pub never-15 : (op : Operation) (c : Chip) → inside c ≡ true → eqb (replyNumber (step op c .reply)) 15 ≡ false
 never-15 op c h = reply-15 op c ∙ ap (λ (b : Bool). checked op && not b) h ∙ and-false (checked op)
 
--- and so do operations repeated
+-- operations repeated keep the bounds
 pub repeat-inside : (k : ℕ) (op : Operation) (c : Chip) → inside c ≡ true → inside (repeat k op c) ≡ true
 unfolding repeat
 repeat-inside zero op c h = h
 repeat-inside (suc k) op c h = repeat-inside k op (step op c .chip) (keeps-inside op c h)
-
-pub repeat-shaped : (k : ℕ) (op : Operation) (c : Chip) → Shaped c → Shaped (repeat k op c)
-unfolding repeat
-repeat-shaped zero op c s = s
-repeat-shaped (suc k) op c s = repeat-shaped k op (step op c .chip) (keeps-shaped op c s)

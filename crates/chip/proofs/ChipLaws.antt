@@ -1,14 +1,37 @@
--- Laws of the chip's definitions: reply 15 first, and a trigger by its fate. Assumes nothing.
-use Prim.Native.Nat.{ℕ}
+-- Laws of the bounds and of reply 15, which is tried first: what is shown inside the bounds and of a 15 is shown. Assumes nothing.
+use Prim.Native.Nat.{_^_, _<_}
 use mathlib.Core.Path.{_≡_, refl, sym, ap, _∙_}
-use mathlib.Core.Bool.{Bool, true, false, cond}
-use Rattle.chip.specs.Chip.{guarded, inside, refuse}
+use mathlib.Core.Bool.{Bool, true, false, cond, _&&_}
+use lib.Dec.{ltb}
+use borrow.Author.Tests.{lt-ltb, ltb-true}
+use Rattle.samples.proofs.Gather.{both-left, both-right}
+use Rattle.queue.specs.Queue.{insideQueue}
+use Rattle.chip.specs.Chip.{guarded, inside, replied}
 use Rattle.chip.specs.declared.chip.Answer.{Answer}
 use Rattle.chip.specs.declared.chip.Chip.{Chip}
 use Rattle.chip.specs.declared.reply.Reply.the-variants.{Outside}
 
 pub guard-in : (c : Chip) (a : Answer) → inside c ≡ true → a ≡ guarded c a
-guard-in c a e = ap (λ (b : Bool). cond b a (refuse Outside c)) (sym e)
+guard-in c a e = ap (λ (b : Bool). cond b a (replied Outside c)) (sym e)
 
-pub guard-out : (c : Chip) (a : Answer) → inside c ≡ false → refuse Outside c ≡ guarded c a
-guard-out c a e = ap (λ (b : Bool). cond b a (refuse Outside c)) (sym e)
+pub guard-out : (c : Chip) (a : Answer) → inside c ≡ false → replied Outside c ≡ guarded c a
+guard-out c a e = ap (λ (b : Bool). cond b a (replied Outside c)) (sym e)
+
+-- a statement of an answer and of whether the record is inside: shown for the answer inside and for 15 outside
+pub by-bounds : (P : Bool → Answer → Type 0) (b : Bool) (c : Chip) (a : Answer) → P true a → P false (replied Outside c) → P b (cond b a (replied Outside c))
+by-bounds P true c a p q = p
+by-bounds P false c a p q = q
+
+-- what the bounds say of each part
+module _ (c : Chip) (h : inside c ≡ true) where
+  pub inside-queue : insideQueue (c .queue) ≡ true
+  inside-queue = both-left _ _ h
+
+  pub inside-phase : c .switches .phase < 10
+  inside-phase = ltb-true _ _ (both-left _ _ (both-right (insideQueue (c .queue)) _ h))
+
+  pub inside-stamp : c .stamp < 2 ^ 56
+  inside-stamp = ltb-true _ _ (both-right (ltb (c .switches .phase) 10) _ (both-right (insideQueue (c .queue)) _ h))
+
+pub inside-by : (c : Chip) → insideQueue (c .queue) ≡ true → c .switches .phase < 10 → c .stamp < 2 ^ 56 → inside c ≡ true
+inside-by c q p s = λ i. q i && (lt-ltb (c .switches .phase) 10 p i && lt-ltb (c .stamp) (2 ^ 56) s i)

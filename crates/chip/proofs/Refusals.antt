@@ -8,7 +8,7 @@ use lib.Dec.{leb, ltb, eqb}
 use lib.ListN.{getD}
 use borrow.Author.Tests.{lt-leb, ltb-true, ltb-false}
 use Rattle.queue.specs.Queue.{advanced, busy, full, nextWord}
-use Rattle.chip.specs.Chip.{afterTicks, blocked, done, externalEvents, fateOf, inside, lineOf, nodeTicks, oneLine, read, readAt, readCounter, refuse, send, sendInto, sendNow, timestampTicks, trigger, triggerBy, withControl, withQueue, write, writeAt}
+use Rattle.chip.specs.Chip.{afterTicks, blocked, done, externalEvents, fateOf, inside, lineOf, nodeTicks, oneLine, read, readAt, readCounter, replied, send, sendInto, sendNow, timestampTicks, trigger, triggerBy, withControl, withQueue, write, writeAt}
 use Rattle.chip.specs.Control.{overran, waited}
 use Rattle.chip.specs.Fate.{Fate, isOff, isFiltered, isLost, isTold, isTaken}
 use Rattle.chip.specs.Operation.{Operation, opReset, opWrite, opRead, opTicks, opNodes, opEvents, opSend, opFill, step}
@@ -21,6 +21,7 @@ use Rattle.chip.specs.declared.place.Place.the-variants.{Beyond, Nowhere
 use Rattle.chip.specs.declared.reply.Reply.{Reply}
 use Rattle.chip.specs.declared.reply.Reply.the-variants.{Done, TooHigh, Nothing, Forbidden, Lines, NoWord, Off, Filtered, Lost, Wait, Busy, Outside}
 use Rattle.chip.proofs.AddressLaws.{place-beyond, same, same-eq, upTo-at}
+use Rattle.chip.proofs.ChipLaws.{by-bounds}
 
 -- what a reply's row says of the value and of the next record; `r` is for a Resource trigger
 abbrev Kept : Bool → Chip → Reply → ℕ → Chip → Type 0
@@ -40,11 +41,10 @@ Kept r c Outside v d = (v ≡ 0) × (d ≡ c)
 abbrev KeptBy : Bool → Chip → Answer → Type 0
 KeptBy r c a = Kept r c (a .reply) (a .value) (a .chip)
 
-kept-guard : (r b : Bool) (c : Chip) (a : Answer) → KeptBy r c a → KeptBy r c (cond b a (refuse Outside c))
-kept-guard r true c a k = k
-kept-guard r false c a k = (refl, refl)
+kept-guard : (r b : Bool) (c : Chip) (a : Answer) → KeptBy r c a → KeptBy r c (cond b a (replied Outside c))
+kept-guard r b c a k = by-bounds (λ t x. KeptBy r c x) b c a k (refl, refl)
 
-kept-trigger : (o r : Bool) (f : Fate) (line word : ℕ) (c : Chip) → KeptBy r c (cond o (triggerBy f r line word c) (refuse Lines c))
+kept-trigger : (o r : Bool) (f : Fate) (line word : ℕ) (c : Chip) → KeptBy r c (cond o (triggerBy f r line word c) (replied Lines c))
 unfolding triggerBy
 kept-trigger false r f line word c = (refl, refl)
 kept-trigger true r isOff line word c = (refl, refl)
@@ -90,7 +90,7 @@ kept-write (Counter i) word lines c = tt
 kept-write (Trace level) word lines c = kept-trigger (oneLine lines) false (fateOf false level c) (lineOf lines) word c
 kept-write (Resource level) word lines c = kept-trigger (oneLine lines) true (fateOf true level c) (lineOf lines) word c
 
-kept-count : (r b w : Bool) (c d : Chip) (v : ℕ) → KeptBy r c (cond b (cond w (refuse Wait (withControl (waited (c .control)) c)) (record { chip = c; value = 2 ^ 63; reply = Busy })) (done v d))
+kept-count : (r b w : Bool) (c d : Chip) (v : ℕ) → KeptBy r c (cond b (cond w (replied Wait (withControl (waited (c .control)) c)) (record { chip = c; value = 2 ^ 63; reply = Busy })) (done v d))
 kept-count r true true c d v = (refl, refl)
 kept-count r true false c d v = (refl, refl)
 kept-count r false w c d v = tt
@@ -140,7 +140,7 @@ kept (opNodes k) c = kept-guard false (inside c) c (done 0 _) tt
 kept (opEvents mask) c = kept-guard false (inside c) c (done 0 _) tt
 kept opSend c = kept-guard false (inside c) c (sendNow c) (go (eqb (c .queue .held) 0))
   where
-    go : (n : Bool) → KeptBy false c (cond n (refuse NoWord c) (done (nextWord (c .bank .shadows) (c .queue)) (withQueue (advanced (c .queue)) c)))
+    go : (n : Bool) → KeptBy false c (cond n (replied NoWord c) (done (nextWord (c .bank .shadows) (c .queue)) (withQueue (advanced (c .queue)) c)))
     go true = (refl, refl)
     go false = tt
 kept (opFill room) c = kept-guard false (inside c) c (done _ _) tt

@@ -1,5 +1,5 @@
--- Each reply number is given exactly in its row's case: by computation for each address up to 127 that is neither a trigger's nor a
--- counter's, and by the definitions' own tests for the others. Assumes nothing.
+-- Each reply number is given exactly in its row's case: by computation for each address up to 127 but for the triggers' writes and the
+-- counters' reads, and for those by the definitions' own tests. Assumes nothing.
 use Prim.Native.Nat.{ℕ, _-_, _%_, _^_, _≤_, _<_}
 use native.Mathlib.Omega.{arith}
 use mathlib.Core.Path.{_≡_, refl, sym, ap, _∙_}
@@ -10,7 +10,7 @@ use lib.ListN.{getD}
 use borrow.Author.Tests.{lt-ltb, lt-leb, ne-eqb, ltb-true, ltb-false}
 use Rattle.counters.specs.Bank.{copied}
 use Rattle.queue.specs.Queue.{busy}
-use Rattle.chip.specs.Chip.{done, externalEvents, inside, lacksRoom, lineOf, nodeTicks, oneLine, read, readAt, readCounter, refuse, send, sendInto, sentBuffer, timestampTicks, trigger, triggerBy, withBank, withControl, write, writeAt}
+use Rattle.chip.specs.Chip.{done, externalEvents, inside, lacksRoom, lineOf, nodeTicks, oneLine, read, readAt, readCounter, replied, send, sendInto, sentBuffer, timestampTicks, trigger, triggerBy, withBank, withControl, write, writeAt}
 use Rattle.chip.specs.Control.{waited}
 use Rattle.chip.specs.Fate.{fate}
 use Rattle.chip.specs.Operation.{Operation, opReset, opWrite, opRead, opTicks, opNodes, opEvents, opSend, opFill, step}
@@ -24,6 +24,7 @@ use Rattle.chip.specs.declared.place.Place.the-variants.{Trace, Resource
 use Rattle.chip.specs.declared.reply.Reply.{Reply}
 use Rattle.chip.specs.declared.reply.Reply.the-variants.{Done, Lines, NoWord, Wait, Busy, Outside}
 use Rattle.chip.proofs.AddressLaws.{or-rest, place-beyond, place-counter, place-trigger, same, same-eq, upTo-at}
+use Rattle.chip.proofs.ChipLaws.{by-bounds}
 
 -- ---- the rows by their tests
 
@@ -92,7 +93,7 @@ tests-counter a h e =
 -- ---- each operation
 
 module _ (a word lines : ℕ) (c : Chip) where
-  written-trigger : (r o s f l w : Bool) → told (cond o (triggerBy (fate s f l w) r (lineOf lines) word c) (refuse Lines c) .reply) ≡ writeRows true (false ∷ false ∷ false ∷ true ∷ true ∷ false ∷ []) o s f l w
+  written-trigger : (r o s f l w : Bool) → told (cond o (triggerBy (fate s f l w) r (lineOf lines) word c) (replied Lines c) .reply) ≡ writeRows true (false ∷ false ∷ false ∷ true ∷ true ∷ false ∷ []) o s f l w
   unfolding triggerBy
   written-trigger r false s f l w = refl
   written-trigger r true false f l w = refl
@@ -123,7 +124,7 @@ module _ (a word lines : ℕ) (c : Chip) where
           same-eq _ _ (or-rest (triggering a) _ (upTo-at 128 (λ b. triggering b || same (told (writeAt (placeOf b) word lines c .reply)) (writeRows true (tests b) (oneLine lines) (c .control .sampling) (passes c b) (lacking c b) (c .control .writewait))) refl a (omega (arith, ltb-false 127 a p))) q)
 
 module _ (a : ℕ) (c : Chip) where
-  counted : (b w : Bool) (x y z : Chip) (v : ℕ) → told (cond b (cond w (refuse Wait x) (record { chip = y; value = 2 ^ 63; reply = Busy })) (done v z) .reply) ≡ readRows true (false ∷ false ∷ false ∷ false ∷ false ∷ true ∷ []) b w
+  counted : (b w : Bool) (x y z : Chip) (v : ℕ) → told (cond b (cond w (replied Wait x) (record { chip = y; value = 2 ^ 63; reply = Busy })) (done v z) .reply) ≡ readRows true (false ∷ false ∷ false ∷ false ∷ false ∷ true ∷ []) b w
   counted true true x y z v = refl
   counted true false x y z v = refl
   counted false w x y z v = refl
@@ -146,9 +147,8 @@ module _ (a : ℕ) (c : Chip) where
           same-eq _ _ (or-rest (counterAt a) _ (upTo-at 128 (λ b. counterAt b || same (told (readAt (placeOf b) c .reply)) (readRows true (tests b) (busy (c .queue)) (c .control .readwait))) refl a (omega (arith, ltb-false 127 a p))) q)
 
 -- 15 is tried first
-told-guarded : (b : Bool) (c : Chip) (x : Answer) (f : Bool → List Bool) → told (x .reply) ≡ f true → told Outside ≡ f false → told (cond b x (refuse Outside c) .reply) ≡ f b
-told-guarded true c x f p q = p
-told-guarded false c x f p q = q
+told-guarded : (b : Bool) (c : Chip) (x : Answer) (f : Bool → List Bool) → told (x .reply) ≡ f true → told Outside ≡ f false → told (cond b x (replied Outside c) .reply) ≡ f b
+told-guarded b c x f p q = by-bounds (λ t y. told (y .reply) ≡ f t) b c x p q
 
 -- where a row can only be 15 or, for a single send, 5
 abbrev fewRows : Bool → Bool → Bool → List Bool
@@ -159,11 +159,11 @@ told-reset : (i : Bool) → told Done ≡ fewRows false i false
 told-reset true = refl
 told-reset false = refl
 
-told-done : (i : Bool) (c d : Chip) (v : ℕ) → told (cond i (done v d) (refuse Outside c) .reply) ≡ fewRows (not i) i false
+told-done : (i : Bool) (c d : Chip) (v : ℕ) → told (cond i (done v d) (replied Outside c) .reply) ≡ fewRows (not i) i false
 told-done true c d v = refl
 told-done false c d v = refl
 
-told-sent : (i n : Bool) (c d : Chip) (v : ℕ) → told (cond i (cond n (refuse NoWord c) (done v d)) (refuse Outside c) .reply) ≡ fewRows (not i) i n
+told-sent : (i n : Bool) (c d : Chip) (v : ℕ) → told (cond i (cond n (replied NoWord c) (done v d)) (replied Outside c) .reply) ≡ fewRows (not i) i n
 told-sent true true c d v = refl
 told-sent true false c d v = refl
 told-sent false n c d v = refl

@@ -11,7 +11,7 @@ use Rattle.queue.specs.Queue.{advanced, nextWord, sendBuffer, sendMany, sendQue
 use Rattle.queue.specs.declared.queue.Queue.{Queue}
 use Rattle.queue.proofs.CountLaws.{words-all, words-most, words-queue}
 use Rattle.queue.proofs.SendLaws.{send-none, send-suc}
-use Rattle.chip.specs.Chip.{done, inside, refuse, send, sendInto, sendNow, sentBuffer, withQueue}
+use Rattle.chip.specs.Chip.{done, inside, replied, send, sendInto, sendNow, sentBuffer, withQueue}
 use Rattle.chip.specs.Operation.{opFill, opSend, step}
 use Rattle.chip.specs.Repeat.{given, repeat}
 use Rattle.chip.specs.declared.chip.Answer.{Answer}
@@ -23,17 +23,17 @@ use Rattle.chip.proofs.ChipLaws.{guard-in, guard-out}
 -- ---- one send
 
 module _ (c : Chip) (h : inside c ≡ true) where
-  pub send-empty : c .queue .held ≡ 0 → step opSend c ≡ refuse NoWord c
+  pub send-empty : c .queue .held ≡ 0 → step opSend c ≡ replied NoWord c
   unfolding send
   send-empty e =
       sym (guard-in c (sendNow c) h)
-      ∙ ap (λ (b : Bool). cond b (refuse NoWord c) (done (nextWord (c .bank .shadows) (c .queue)) (withQueue (advanced (c .queue)) c))) (eq-eqb (c .queue .held) 0 e)
+      ∙ ap (λ (b : Bool). cond b (replied NoWord c) (done (nextWord (c .bank .shadows) (c .queue)) (withQueue (advanced (c .queue)) c))) (eq-eqb (c .queue .held) 0 e)
 
   pub send-word : (c .queue .held ≡ 0 → ⊥) → step opSend c ≡ done (nextWord (c .bank .shadows) (c .queue)) (withQueue (advanced (c .queue)) c)
   unfolding send
   send-word e =
       sym (guard-in c (sendNow c) h)
-      ∙ ap (λ (b : Bool). cond b (refuse NoWord c) (done (nextWord (c .bank .shadows) (c .queue)) (withQueue (advanced (c .queue)) c))) (ne-eqb (c .queue .held) 0 e)
+      ∙ ap (λ (b : Bool). cond b (replied NoWord c) (done (nextWord (c .bank .shadows) (c .queue)) (withQueue (advanced (c .queue)) c))) (ne-eqb (c .queue .held) 0 e)
 
 -- ---- several
 
@@ -123,10 +123,6 @@ module _ (m : ℕ) (c : Chip) where
   fill-none h e =
       let none = send-none m (c .bank .shadows) (c .queue) e in
       fill-answer h ∙ ap₂ (λ (ws : List ℕ) (q : Queue). done (length ws) (withQueue q c)) (none .0) (none .1)
-
-  pub fill-outside : inside c ≡ false → step (opFill m) c ≡ refuse Outside c
-  unfolding sendInto
-  fill-outside h = sym (guard-out c _ h)
 
 -- "the rest of the buffer untouched": the words are what the single sends give, one after the other
 pub fill-words : (c : Chip) (out : List ℕ) → inside c ≡ true → sentBuffer c out ≡ given (step (opFill (length out)) c .value) opSend c ++ drop (step (opFill (length out)) c .value) out

@@ -15,7 +15,8 @@ use Rattle.chip.specs.Repeat.{repeat}
 use Rattle.chip.specs.Shape.{Shaped}
 use Rattle.chip.specs.declared.chip.Answer.{Answer}
 use Rattle.chip.specs.declared.chip.Chip.{Chip}
-use Rattle.chip.proofs.Bounds.{inside-phase, inside-stamp, keeps-inside, keeps-shaped}
+use Rattle.chip.proofs.Bounds.{keeps-inside, keeps-shaped}
+use Rattle.chip.proofs.ChipLaws.{inside-phase, inside-stamp}
 use Rattle.chip.proofs.ChipLaws.{guard-in}
 use Rattle.chip.proofs.WidthLaws.{within-at}
 

@@ -48,10 +48,10 @@ module _ (k : ℕ) where
   within-set (suc n) (x ∷ vs) zero v e h = cons-in n v vs h (rest-in n x vs e)
   within-set (suc n) (x ∷ vs) (suc i) v e h = cons-in n x (set vs i v) (first-in n x vs e) (within-set n vs i v (rest-in n x vs e) h)
 
-  pub within-each : (n : ℕ) (f : ℕ → ℕ → ℕ) (i : ℕ) (vs : List ℕ) → ((j v : ℕ) → v < 256 ^ k → f j v < 256 ^ k) → within (replicate n k) vs ≡ true → within (replicate n k) (each f i vs) ≡ true
+  pub each-within : (n : ℕ) (f : ℕ → ℕ → ℕ) (i : ℕ) (vs : List ℕ) → ((j v : ℕ) → v < 256 ^ k → f j v < 256 ^ k) → within (replicate n k) vs ≡ true → within (replicate n k) (each f i vs) ≡ true
   unfolding within each
-  within-each zero f i [] h e = e
-  within-each zero f i (v ∷ vs) h e = absurd (false≢true e)
-  within-each (suc n) f i [] h e = absurd (false≢true e)
-  within-each (suc n) f i (v ∷ vs) h e =
-      cons-in n (f i v) (each f (suc i) vs) (h i v (first-in n v vs e)) (within-each n f (suc i) vs h (rest-in n v vs e))
+  each-within zero f i [] h e = e
+  each-within zero f i (v ∷ vs) h e = absurd (false≢true e)
+  each-within (suc n) f i [] h e = absurd (false≢true e)
+  each-within (suc n) f i (v ∷ vs) h e =
+      cons-in n (f i v) (each f (suc i) vs) (h i v (first-in n v vs e)) (each-within n f (suc i) vs h (rest-in n v vs e))

@@ -23,7 +23,7 @@ use Rattle.queue.specs.declared.queue.Held.{Held}
 use Rattle.queue.specs.declared.queue.Queue.{Queue}
 use Rattle.queue.proofs.CountLaws.{send-first, sentMore, words-first}
 use Rattle.queue.proofs.QueueLaws.{held-sixteen}
-use Rattle.chip.specs.Chip.{done, fateOf, headerOf, inside, lineOf, oneLine, refuse, sampleNow, takeSample, trigger, triggerBy, withQueue, write, writeAt}
+use Rattle.chip.specs.Chip.{done, fateOf, headerOf, inside, lineOf, oneLine, replied, sampleNow, takeSample, trigger, triggerBy, withQueue, write, writeAt}
 use Rattle.chip.specs.Fate.{Fate, isOff, isFiltered, isLost, isTold, isTaken}
 use Rattle.chip.specs.Place.{placeOf}
 use Rattle.chip.specs.Reply.{replyNumber}
@@ -46,18 +46,7 @@ use Rattle.chip.proofs.WidthLaws.{within-at, within-length}
 -- ---- the words of the sample that is being sent
 
 module _ (c : Chip) (h : inside c ≡ true) (some : c .queue .held ≡ 0 → ⊥) where
-  -- a send returns the next of them
-  pub next-word : step opSend c ≡ done (getD (firstWords c) (c .queue .sent) 0) (withQueue (advanced (c .queue)) c)
-  next-word = send-word c h some
-
-  -- and after k sends the one k places on
-  pub word-after : (k : ℕ) → c .queue .sent + k < firstCount (c .queue) → step opSend (repeat k opSend c) .value ≡ getD (firstWords c) (c .queue .sent + k) 0
-  word-after k p =
-      let now : Chip = withQueue (sentMore k (c .queue)) c in
-      let there : repeat k opSend c ≡ now = repeat-sends k c h ∙ ap (λ (q : Queue). withQueue q c) (send-first k (c .queue) some p) in
-      ap (λ (d : Chip). step opSend d .value) there ∙ ap (λ (a : Answer). a .value) (send-word now (subst (λ (d : Chip). inside d ≡ true) there (repeat-inside k opSend c h)) some)
-
-  -- k of them in a row
+  -- k sends give k of them, from the first one that is not sent yet
   pub words-after : (k : ℕ) → Shaped c → c .queue .sent + k ≤ firstCount (c .queue) → given k opSend c ≡ take k (drop (c .queue .sent) (firstWords c))
   words-after k s p =
       let sixteen : length (c .bank .shadows) ≡ 16 = within-length 4 16 (c .bank .shadows) (s .shadows) in
@@ -142,7 +131,7 @@ module _ (r : Bool) (line word : ℕ) (c : Chip) (small : line < 8) (s : Shaped 
 differ : (x : Reply) → x ≡ Done → (eqb (replyNumber x) 0 ≡ false) → ⊥
 differ x e p = false≢true (sym p ∙ ap (λ (y : Reply). eqb (replyNumber y) 0) e)
 
-trigger-done : (o r : Bool) (f : Fate) (line word : ℕ) (c : Chip) → cond o (triggerBy f r line word c) (refuse Lines c) .reply ≡ Done → (cond o (triggerBy f r line word c) (refuse Lines c) ≡ done 0 (takeSample r line word c)) × (o ≡ true)
+trigger-done : (o r : Bool) (f : Fate) (line word : ℕ) (c : Chip) → cond o (triggerBy f r line word c) (replied Lines c) .reply ≡ Done → (cond o (triggerBy f r line word c) (replied Lines c) ≡ done 0 (takeSample r line word c)) × (o ≡ true)
 unfolding triggerBy
 trigger-done false r f line word c e = absurd (differ Lines e refl)
 trigger-done true r isOff line word c e = absurd (differ Off e refl)
@@ -160,7 +149,7 @@ trigger-takes a word lines c t e = guard (inside c) e
     kind true = trigger-done (oneLine lines) true (fateOf true (a % 16) c) (lineOf lines) word c
     kind false = trigger-done (oneLine lines) false (fateOf false (a % 16) c) (lineOf lines) word c
 
-    guard : (b : Bool) → cond b (writeAt (placeOf a) word lines c) (refuse Outside c) .reply ≡ Done → (cond b (writeAt (placeOf a) word lines c) (refuse Outside c) ≡ done 0 (takeSample (leb 112 a) (lineOf lines) word c)) × (oneLine lines ≡ true)
+    guard : (b : Bool) → cond b (writeAt (placeOf a) word lines c) (replied Outside c) .reply ≡ Done → (cond b (writeAt (placeOf a) word lines c) (replied Outside c) ≡ done 0 (takeSample (leb 112 a) (lineOf lines) word c)) × (oneLine lines ≡ true)
     guard false q = absurd (differ Outside q refl)
     guard true q =
         subst (λ (p : Place). writeAt p word lines c .reply ≡ Done → (writeAt p word lines c ≡ done 0 (takeSample (leb 112 a) (lineOf lines) word c)) × (oneLine lines ≡ true)) (sym (place-trigger a t)) (kind (leb 112 a)) q

@@ -13,7 +13,7 @@ use Rattle.counters.specs.declared.switches.Kind.the-variants.{Slow, Node}
 use Rattle.queue.specs.Queue.{advanced, busy, emptyQueue, full, insideQueue, nextWord, pushed, sendBuffer, sendMany}
 use Rattle.queue.specs.declared.queue.Held.{Held}
 use Rattle.queue.specs.declared.queue.Queue.{Queue}
-use Rattle.chip.specs.Control.{configured, csrOf, filtering, noControl, one, overran, taken, unlost, unwaited, waited}
+use Rattle.chip.specs.Control.{configured, csrOf, filtering, noControl, one, overran, taken, overrunsCleared, waitsCleared, waited}
 use Rattle.chip.specs.Fate.{Fate, fate, isOff, isFiltered, isLost, isTold, isTaken}
 use Rattle.chip.specs.Place.{placeOf}
 use Rattle.chip.specs.declared.chip.Answer.{Answer}
@@ -59,12 +59,12 @@ fresh =
 abbrev pub softReset : Chip → Chip
 softReset c = withStamp (c .stamp) fresh
 
--- an answer that the operation is done, and one that changes nothing and has the value 0
+-- an answer that the operation is done, with a value; and a reply with the value 0
 abbrev pub done : ℕ → Chip → Answer
 done value c = record { chip = c; value = value; reply = Done }
 
-abbrev pub refuse : Reply → Chip → Answer
-refuse r c = record { chip = c; value = 0; reply = r }
+abbrev pub replied : Reply → Chip → Answer
+replied r c = record { chip = c; value = 0; reply = r }
 
 -- the bounds of reply 15: "queue counts, .. phase, field widths"
 abbrev pub inside : Chip → Bool
@@ -72,7 +72,7 @@ inside c = insideQueue (c .queue) && (ltb (c .switches .phase) 10 && ltb (c .sta
 
 -- 15 is tried first, at "any operation but hardware reset"
 abbrev pub guarded : Chip → Answer → Answer
-guarded c a = cond (inside c) a (refuse Outside c)
+guarded c a = cond (inside c) a (replied Outside c)
 
 -- ---- triggers
 
@@ -85,7 +85,7 @@ lineOf lines = trailingZeros 8 lines
 
 -- "a Resource trigger and a Resource sample is held"
 abbrev pub blocked : Bool → Queue → Bool
-blocked resource q = cond resource (busy q) false
+blocked resource q = resource && busy q
 
 -- "A trigger lacks room if 8 are held, or if it is a Resource trigger and a Resource sample is held"
 abbrev pub lacksRoom : Bool → Queue → Bool
@@ -119,11 +119,11 @@ takeSample resource line word c =
     }
 
 unfoldable pub triggerBy : Fate → Bool → ℕ → ℕ → Chip → Answer
-triggerBy isOff resource line word c = refuse Off c
-triggerBy isFiltered resource line word c = refuse Filtered c
+triggerBy isOff resource line word c = replied Off c
+triggerBy isFiltered resource line word c = replied Filtered c
 triggerBy isLost resource line word c =
-    refuse Lost (withControl (overran (full (c .queue)) (blocked resource (c .queue)) (c .control)) c)
-triggerBy isTold resource line word c = refuse Wait (withControl (waited (c .control)) c)
+    replied Lost (withControl (overran (full (c .queue)) (blocked resource (c .queue)) (c .control)) c)
+triggerBy isTold resource line word c = replied Wait (withControl (waited (c .control)) c)
 triggerBy isTaken resource line word c = done 0 (takeSample resource line word c)
 
 abbrev pub fateOf : Bool → ℕ → Chip → Fate
@@ -133,19 +133,19 @@ fateOf resource level c =
 -- "4 trigger without exactly one active processor line", before 6, 7, 8 or 10
 unfoldable pub trigger : Bool → ℕ → ℕ → ℕ → Chip → Answer
 trigger resource level word lines c =
-    cond (oneLine lines) (triggerBy (fateOf resource level c) resource (lineOf lines) word c) (refuse Lines c)
+    cond (oneLine lines) (triggerBy (fateOf resource level c) resource (lineOf lines) word c) (replied Lines c)
 
 -- ---- writes and reads, by what stands at the address
 
 unfoldable pub writeAt : Place → ℕ → ℕ → Chip → Answer
-writeAt Beyond word lines c = refuse TooHigh c
-writeAt Nowhere word lines c = refuse Nothing c
+writeAt Beyond word lines c = replied TooHigh c
+writeAt Nowhere word lines c = replied Nothing c
 writeAt Reset word lines c = done 0 (softReset c)
 writeAt Csr word lines c = done 0 (withControl (configured word (c .control)) c)
-writeAt Timestamp word lines c = refuse Forbidden c
+writeAt Timestamp word lines c = replied Forbidden c
 writeAt Filter word lines c = done 0 (withControl (filtering word (c .control)) c)
-writeAt Waits word lines c = done 0 (withControl (unwaited (c .control)) c)
-writeAt Overruns word lines c = done 0 (withControl (unlost (c .control)) c)
+writeAt Waits word lines c = done 0 (withControl (waitsCleared (c .control)) c)
+writeAt Overruns word lines c = done 0 (withControl (overrunsCleared (c .control)) c)
 writeAt Mux word lines c = done 0 (withSwitches (selecting word (c .switches)) c)
 writeAt Clear word lines c = done 0 (withBank (cleared (word % 2 ^ 16) (c .bank)) c)
 writeAt Enable word lines c = done 0 (withSwitches (enabling word (c .switches)) c)
@@ -161,27 +161,27 @@ unfoldable pub readCounter : ℕ → Chip → Answer
 readCounter i c =
     cond (busy (c .queue))
     (cond (c .control .readwait)
-    (refuse Wait (withControl (waited (c .control)) c))
+    (replied Wait (withControl (waited (c .control)) c))
     (record { chip = c; value = 2 ^ 63; reply = Busy }))
     (done (getD (c .bank .values) i 0) (withBank (copied (c .bank)) c))
 
 unfoldable pub readAt : Place → Chip → Answer
-readAt Beyond c = refuse TooHigh c
-readAt Nowhere c = refuse Nothing c
-readAt Reset c = refuse Forbidden c
+readAt Beyond c = replied TooHigh c
+readAt Nowhere c = replied Nothing c
+readAt Reset c = replied Forbidden c
 readAt Csr c = done (csrOf (full (c .queue)) (busy (c .queue)) (c .control)) c
 readAt Timestamp c = done (c .stamp) c
 readAt Filter c = done (c .control .filter) c
 readAt Waits c = done (c .control .wait) c
 readAt Overruns c = done (c .control .overrun) c
 readAt Mux c = done (selection (c .switches)) c
-readAt Clear c = refuse Forbidden c
+readAt Clear c = replied Forbidden c
 readAt Enable c = done (c .switches .enabled) c
-readAt Disable c = refuse Forbidden c
+readAt Disable c = replied Forbidden c
 readAt (Source i) c = done (getD (c .sources) i 0) c
 readAt (Counter i) c = readCounter i c
-readAt (Trace level) c = refuse Forbidden c
-readAt (Resource level) c = refuse Forbidden c
+readAt (Trace level) c = replied Forbidden c
+readAt (Resource level) c = replied Forbidden c
 
 -- ---- the operations
 
@@ -215,10 +215,14 @@ nodeTicks k c = guarded c (done 0 (withBank (ticked Node k (c .switches) (c .ban
 unfoldable pub externalEvents : ℕ → Chip → Answer
 externalEvents mask c = guarded c (done 0 (withBank (signalled mask (c .switches) (c .bank)) c))
 
+-- "A sample is held .. until its last word is sent": with none held there is no word to send
+abbrev pub noneHeld : ℕ → Bool
+noneHeld held = eqb held 0
+
 -- "5 no word to send", else the next word
 abbrev pub sendNow : Chip → Answer
 sendNow c =
-    cond (eqb (c .queue .held) 0) (refuse NoWord c)
+    cond (noneHeld (c .queue .held)) (replied NoWord c)
     (done (nextWord (c .bank .shadows) (c .queue)) (withQueue (advanced (c .queue)) c))
 
 unfoldable pub send : Chip → Answer

@@ -43,8 +43,8 @@ abbrev pub waited : Control → Control
 waited c = withErrors (grown (c .wait) 1) (c .overrun) c
 
 -- "clear Wait"
-abbrev pub unwaited : Control → Control
-unwaited c = withErrors 0 (c .overrun) c
+abbrev pub waitsCleared : Control → Control
+waitsCleared c = withErrors 0 (c .overrun) c
 
 -- reply 8: "adds one to the Overrun Counter, sets flag 8 if 8 are held and flag 9 if it is a Resource trigger and shadows are busy
 -- .., and sets the lost mark"
@@ -53,8 +53,8 @@ overran full busy c =
     withMarks (c .flagfull || full) (c .flagbusy || busy) true (withErrors (c .wait) (grown (c .overrun) 1) c)
 
 -- "Writing address 6 also clears flags 8 and 9, not the lost mark"
-abbrev pub unlost : Control → Control
-unlost c = withMarks false false (c .lost) (withErrors (c .wait) 0 c)
+abbrev pub overrunsCleared : Control → Control
+overrunsCleared c = withMarks false false (c .lost) (withErrors (c .wait) 0 c)
 
 -- a taken sample: "Then the lost mark is cleared"
 abbrev pub taken : Control → Control

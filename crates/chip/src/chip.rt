@@ -1,5 +1,6 @@
 // The chip: one record by value, and each operation with the next record beside its reply.
 use super::control::Control;
+use super::control::one;
 use super::place::Place;
 use super::place::find;
 use super::reply::Reply;
@@ -13,8 +14,7 @@ ghost use mathlib.Core.Bool.{cond, false, true};
 ghost use Prim.Native.Nat.{ℕ, _<_, _≤_, _^_};
 ghost use lib.ListN.{getD, length, set};
 ghost use Rattle.counters.specs.Bank.{copied};
-ghost use Rattle.chip.specs.Chip.{afterTicks, blocked, done, externalEvents, fresh, hardReset, headerOf, inside, nodeTicks, read, readAt, readCounter, refuse, sampleNow, send, sendInto, sentBuffer, softReset, takeSample, timestampTicks, trigger, triggerBy, fateOf, withBank, withControl, withSources, withSwitches, write, writeAt};
-ghost use Rattle.chip.specs.Control.{one};
+ghost use Rattle.chip.specs.Chip.{afterTicks, blocked, done, externalEvents, fresh, hardReset, headerOf, inside, nodeTicks, noneHeld, read, readAt, readCounter, replied, sampleNow, send, sendInto, sentBuffer, softReset, takeSample, timestampTicks, trigger, triggerBy, fateOf, withBank, withControl, withSources, withStamp, withSwitches, write, writeAt};
 
 // Wide parts first: no padding (400 bytes).
 pub struct Chip {
@@ -38,8 +38,15 @@ impl Chip {
     pub fn fresh() -> Chip
         ensures { λ r. ⌜ r ≡ fresh ⌝ }
     {
+        Chip::fresh_at(0)
+    }
+
+    // The same, but for the Timestamp.
+    fn fresh_at(stamp: u64) -> Chip
+        ensures { λ r. ⌜ r ≡ withStamp stamp fresh ⌝ }
+    {
         Chip {
-            stamp: 0,
+            stamp,
             queue: Queue::empty(),
             bank: Bank {
                 values: [0; 16],
@@ -72,7 +79,7 @@ impl Chip {
         Chip::fresh().done(0)
     }
 
-    // Whether the record is one that operations can leave: the bounds of reply 15.
+    // Whether the record is inside the bounds of reply 15.
     pub fn inside(self) -> bool
         ensures { λ r. ⌜ r ≡ inside self ⌝ }
     {
@@ -92,9 +99,9 @@ impl Chip {
         }
     }
 
-    // Nothing changed, and the value 0.
-    fn refuse(self, reply: Reply) -> Answer
-        ensures { λ r. ⌜ r ≡ refuse reply self ⌝ }
+    // This chip, with a reply and the value 0.
+    fn replied(self, reply: Reply) -> Answer
+        ensures { λ r. ⌜ r ≡ replied reply self ⌝ }
     {
         Answer {
             chip: self,
@@ -111,7 +118,7 @@ impl Chip {
         if self.inside() {
             return self.write_at(find(address), word, lines);
         }
-        self.refuse(Reply::Outside)
+        self.replied(Reply::Outside)
     }
 
     pub fn read(self, address: u64) -> Answer
@@ -120,7 +127,7 @@ impl Chip {
         if self.inside() {
             return self.read_at(find(address));
         }
-        self.refuse(Reply::Outside)
+        self.replied(Reply::Outside)
     }
 
     pub fn timestamp_ticks(self, count: u32) -> Answer
@@ -129,7 +136,7 @@ impl Chip {
         if self.inside() {
             return self.after_ticks(count).done(0);
         }
-        self.refuse(Reply::Outside)
+        self.replied(Reply::Outside)
     }
 
     pub fn node_ticks(mut self, count: u32) -> Answer
@@ -140,7 +147,7 @@ impl Chip {
             self.bank = bank;
             return self.done(0);
         }
-        self.refuse(Reply::Outside)
+        self.replied(Reply::Outside)
     }
 
     pub fn external_events(mut self, mask: u16) -> Answer
@@ -151,7 +158,7 @@ impl Chip {
             self.bank = bank;
             return self.done(0);
         }
-        self.refuse(Reply::Outside)
+        self.replied(Reply::Outside)
     }
 
     // The next word, if there is one.
@@ -159,8 +166,8 @@ impl Chip {
         ensures { λ r. ⌜ r ≡ send self ⌝ }
     {
         if self.inside() {
-            if self.queue.held == 0 {
-                return self.refuse(Reply::NoWord);
+            if none_held(self.queue.held) {
+                return self.replied(Reply::NoWord);
             }
             let shadows = self.bank.shadows;
             let sent = self.queue.send(shadows);
@@ -168,7 +175,7 @@ impl Chip {
             self.queue = queue;
             return self.done(sent.word);
         }
-        self.refuse(Reply::Outside)
+        self.replied(Reply::Outside)
     }
 
     // As many words as the buffer has places or as are left.
@@ -183,7 +190,7 @@ impl Chip {
             self.queue = queue;
             return self.done(sent.count);
         }
-        self.refuse(Reply::Outside)
+        self.replied(Reply::Outside)
     }
 }
 
@@ -193,14 +200,14 @@ impl Chip {
         ensures { λ r. ⌜ r ≡ writeAt place word lines self ⌝ }
     {
         match place {
-            Place::Beyond => self.refuse(Reply::TooHigh),
-            Place::Nowhere => self.refuse(Reply::Nothing),
+            Place::Beyond => self.replied(Reply::TooHigh),
+            Place::Nowhere => self.replied(Reply::Nothing),
             Place::Reset => self.soft_reset().done(0),
             Place::Csr => self.controlled(self.control.configured(word)).done(0),
-            Place::Timestamp => self.refuse(Reply::Forbidden),
+            Place::Timestamp => self.replied(Reply::Forbidden),
             Place::Filter => self.controlled(self.control.filtering(word)).done(0),
-            Place::Waits => self.controlled(self.control.unwaited()).done(0),
-            Place::Overruns => self.controlled(self.control.unlost()).done(0),
+            Place::Waits => self.controlled(self.control.waits_cleared()).done(0),
+            Place::Overruns => self.controlled(self.control.overruns_cleared()).done(0),
             Place::Mux => self.switched(self.switches.selecting(word)).done(0),
             Place::Clear => self.banked(self.bank.cleared((word % 65536) as u16))
                 .done(0),
@@ -219,31 +226,29 @@ impl Chip {
         ensures { λ r. ⌜ r ≡ readAt place self ⌝ }
     {
         match place {
-            Place::Beyond => self.refuse(Reply::TooHigh),
-            Place::Nowhere => self.refuse(Reply::Nothing),
-            Place::Reset => self.refuse(Reply::Forbidden),
+            Place::Beyond => self.replied(Reply::TooHigh),
+            Place::Nowhere => self.replied(Reply::Nothing),
+            Place::Reset => self.replied(Reply::Forbidden),
             Place::Csr => self.done(self.control.csr(self.queue.full(), self.queue.busy())),
             Place::Timestamp => self.done(self.stamp),
             Place::Filter => self.done(self.control.filter as u64),
             Place::Waits => self.done(self.control.wait as u64),
             Place::Overruns => self.done(self.control.overrun as u64),
             Place::Mux => self.done(self.switches.selection()),
-            Place::Clear => self.refuse(Reply::Forbidden),
+            Place::Clear => self.replied(Reply::Forbidden),
             Place::Enable => self.done(self.switches.enabled as u64),
-            Place::Disable => self.refuse(Reply::Forbidden),
+            Place::Disable => self.replied(Reply::Forbidden),
             Place::Source(i) => self.done(self.source(i) as u64),
             Place::Counter(i) => self.read_counter(i),
-            Place::Trace(_) => self.refuse(Reply::Forbidden),
-            Place::Resource(_) => self.refuse(Reply::Forbidden),
+            Place::Trace(_) => self.replied(Reply::Forbidden),
+            Place::Resource(_) => self.replied(Reply::Forbidden),
         }
     }
 
     fn soft_reset(self) -> Chip
         ensures { λ r. ⌜ r ≡ softReset self ⌝ }
     {
-        let mut chip = Chip::fresh();
-        chip.stamp = self.stamp;
-        chip
+        Chip::fresh_at(self.stamp)
     }
 
     fn controlled(mut self, control: Control) -> Chip
@@ -297,7 +302,7 @@ impl Chip {
     {
         if self.queue.busy() {
             if self.control.readwait {
-                return self.controlled(self.control.waited()).refuse(Reply::Wait);
+                return self.controlled(self.control.waited()).replied(Reply::Wait);
             }
             return Answer {
                 chip: self,
@@ -333,7 +338,7 @@ impl Chip {
             let line = u8::trailing_zeros(lines);
             return self.trigger_line(resource, level, word, line);
         }
-        self.refuse(Reply::Lines)
+        self.replied(Reply::Lines)
     }
 
     // The same, of a trigger with one active line.
@@ -343,19 +348,19 @@ impl Chip {
     {
         let control = self.control;
         if !control.sampling {
-            return self.refuse(Reply::Off);
+            return self.replied(Reply::Off);
         }
         if !control.passes(level) {
-            return self.refuse(Reply::Filtered);
+            return self.replied(Reply::Filtered);
         }
         let full = self.queue.full();
         let blocked = self.blocked(resource);
         if full | blocked {
             if control.writewait {
-                return self.controlled(control.waited()).refuse(Reply::Wait);
+                return self.controlled(control.waited()).replied(Reply::Wait);
             }
             return self.controlled(control.overran(full, blocked))
-                .refuse(Reply::Lost);
+                .replied(Reply::Lost);
         }
         self.take(resource, line, word).done(0)
     }
@@ -405,6 +410,13 @@ impl Chip {
     }
 }
 
+// Whether there is no word to send.
+fn none_held(held: usize) -> bool
+    ensures { λ r. ⌜ r ≡ noneHeld held ⌝ }
+{
+    held == 0
+}
+
 // Whether a trigger's place is a Resource trigger's.
 fn takes_counters(place: Place) -> bool
     ensures { λ r. ⌜ ((level : ℕ) → place ≡ Place.Trace level → r ≡ false) ⌝ }
@@ -414,11 +426,4 @@ fn takes_counters(place: Place) -> bool
         Place::Resource(_) => true,
         _ => false,
     }
-}
-
-fn one(flag: bool) -> u32
-    ensures { λ r. ⌜ r ≡ one flag ⌝ }
-    ensures { λ r. ⌜ r ≤ 1 ⌝ }
-{
-    if flag { 1 } else { 0 }
 }

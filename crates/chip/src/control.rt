@@ -2,7 +2,7 @@
 ghost use mathlib.Core.Path.{_≡_};
 ghost use Prim.Native.Nat.{_≤_};
 ghost use Rattle.counters.specs.Bank.{bit};
-ghost use Rattle.chip.specs.Control.{configured, csrOf, filtering, one, overran, pair, taken, unlost, unwaited, waited};
+ghost use Rattle.chip.specs.Control.{configured, csrOf, filtering, one, overran, pair, taken, overrunsCleared, waitsCleared, waited};
 
 // No padding (16 bytes).
 pub struct Control {
@@ -44,8 +44,8 @@ impl Control {
         self
     }
 
-    pub fn unwaited(mut self) -> Control
-        ensures { λ r. ⌜ r ≡ unwaited self ⌝ }
+    pub fn waits_cleared(mut self) -> Control
+        ensures { λ r. ⌜ r ≡ waitsCleared self ⌝ }
     {
         self.wait = 0;
         self
@@ -64,8 +64,8 @@ impl Control {
     }
 
     // The Overrun Counter and both flags cleared, the lost mark kept.
-    pub fn unlost(mut self) -> Control
-        ensures { λ r. ⌜ r ≡ unlost self ⌝ }
+    pub fn overruns_cleared(mut self) -> Control
+        ensures { λ r. ⌜ r ≡ overrunsCleared self ⌝ }
     {
         self.overrun = 0;
         self.flagfull = false;
@@ -99,7 +99,7 @@ impl Control {
         let settings = one(self.sampling) + 4 * one(self.writewait) + 16 * one(self.readwait);
         let queue = 64 * one(full) + 128 * one(busy);
         let flags = 256 * one(self.flagfull) + 512 * one(self.flagbusy);
-        settings + queue + flags
+        (settings + queue + flags) as u64
     }
 }
 
@@ -116,7 +116,8 @@ fn pair(even: bool, odd: bool, before: bool) -> bool
     before
 }
 
-fn one(flag: bool) -> u64
+// A flag as a number.
+pub fn one(flag: bool) -> u32
     ensures { λ r. ⌜ r ≡ one flag ⌝ }
     ensures { λ r. ⌜ r ≤ 1 ⌝ }
 {

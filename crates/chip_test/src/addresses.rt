@@ -1,8 +1,9 @@
 // Every address and every set of processor lines, each tried on the same record; equal answers are one line, `read 128..255: 1 0 same`.
 use super::same;
-use super::show;
 use chip::chip::Answer;
 use chip::chip::Chip;
+use chip::reply::number_of;
+use printing::print;
 
 // What is gone through.
 pub enum Trial {
@@ -51,7 +52,7 @@ fn span_of(chip: Chip, at: u64, answer: Answer) -> Span {
     Span {
         first: at,
         last: at,
-        reply: show::reply_number(reply),
+        reply: number_of(reply),
         value: answer.value,
         same: same::same(chip, next),
     }
@@ -74,20 +75,20 @@ fn joined(kind: Trial, before: Span, next: Span) -> Span {
 
 fn print(kind: Trial, span: Span) {
     name(kind);
-    show::field(b" ", span.first);
+    print::field(b" ", span.first);
     if span.first < span.last {
-        show::field(b"..", span.last);
+        print::field(b"..", span.last);
     }
-    show::field(b": ", span.reply);
-    show::field(b" ", span.value);
-    show::sameness(span.same);
-    show::text(b"\n");
+    print::field(b": ", span.reply);
+    print::field(b" ", span.value);
+    same::tell(span.same);
+    print::text(b"\n");
 }
 
 fn name(kind: Trial) {
     match kind {
-        Trial::Read => show::text(b"read"),
-        Trial::Write(_, _) => show::text(b"write"),
-        Trial::Lines(_) => show::text(b"lines"),
+        Trial::Read => print::text(b"read"),
+        Trial::Write(_, _) => print::text(b"write"),
+        Trial::Lines(_) => print::text(b"lines"),
     }
 }

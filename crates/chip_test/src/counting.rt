@@ -1,12 +1,12 @@
 // Counters, clocks and the Timestamp.
 use super::given;
-use super::show;
 use super::steps;
 use chip::chip::Chip;
+use printing::print;
 
 // M9.
 pub fn mux_halves() {
-    show::heading(b"MUX SEL's halves: odd counters on node clock, even on external");
+    print::heading(b"MUX SEL's halves: odd counters on node clock, even on external");
     let mut chip = Chip::fresh();
     chip = steps::set(chip, 8, 187647121227775);
     chip = steps::read(chip, 8);
@@ -25,7 +25,7 @@ pub fn mux_halves() {
 
 // Bit 37 alone: counter 5 on software, the others on slow clock.
 pub fn software_events() {
-    show::heading(b"Software events; disabling and clearing");
+    print::heading(b"Software events; disabling and clearing");
     let mut chip = Chip::fresh();
     chip = steps::set(chip, 8, 137438953472);
     chip = steps::set(chip, 37, 0);
@@ -46,7 +46,7 @@ pub fn software_events() {
 
 // M10.
 pub fn slow_clock() {
-    show::heading(b"Slow clock: every tenth tick since the reset");
+    print::heading(b"Slow clock: every tenth tick since the reset");
     let mut chip = Chip::fresh();
     chip = steps::set(chip, 11, 1);
     chip = steps::timestamp_ticks(chip, 9);
@@ -64,7 +64,7 @@ pub fn slow_clock() {
 }
 
 pub fn phase_unseen() {
-    show::heading(b"The phase runs while a counter is disabled");
+    print::heading(b"The phase runs while a counter is disabled");
     let mut chip = Chip::fresh();
     chip = steps::timestamp_ticks(chip, 7);
     chip = steps::set(chip, 11, 1);
@@ -73,7 +73,7 @@ pub fn phase_unseen() {
 }
 
 pub fn node_wrap() {
-    show::heading(b"Counters wrap at 2^32 by node ticks");
+    print::heading(b"Counters wrap at 2^32 by node ticks");
     let mut chip = Chip::fresh();
     chip = steps::set(chip, 8, 281470681808895);
     chip = steps::set(chip, 11, 1);
@@ -90,14 +90,14 @@ pub fn node_wrap() {
 
 // M8, by each kind: 00, 01, 10, 11.
 pub fn every_kind_wraps() {
-    show::heading(b"Each kind takes 4294967295 to 0, and no other kind does");
-    show::text(b"slow clock\n");
+    print::heading(b"Each kind takes 4294967295 to 0, and no other kind does");
+    print::text(b"slow clock\n");
     by_all_kinds(given::brimful(0, 0));
-    show::text(b"external\n");
+    print::text(b"external\n");
     by_all_kinds(given::brimful(0, 65535));
-    show::text(b"software\n");
+    print::text(b"software\n");
     by_all_kinds(given::brimful(65535, 0));
-    show::text(b"node clock\n");
+    print::text(b"node clock\n");
     by_all_kinds(given::brimful(65535, 65535));
 }
 
@@ -114,7 +114,7 @@ fn by_all_kinds(chip: Chip) {
 }
 
 pub fn timestamp_wrap() {
-    show::heading(b"Timestamp wraps at 2^56");
+    print::heading(b"Timestamp wraps at 2^56");
     let mut chip = given::stamped(given::ready(), 72057594037927935);
     chip = steps::read(chip, 2);
     chip = steps::write(chip, 96, 0, 1);
@@ -129,7 +129,7 @@ pub fn timestamp_wrap() {
 
 // 256 times 2^32 - 1, and 259.
 pub fn forty_bits() {
-    show::heading(b"A sample's Timestamp has 40 bits: 2^40 + 3 ticks give 3");
+    print::heading(b"A sample's Timestamp has 40 bits: 2^40 + 3 ticks give 3");
     let mut chip = given::ready();
     chip = steps::long_ticks(chip, 256);
     chip = steps::timestamp_ticks(chip, 258);
@@ -141,7 +141,7 @@ pub fn forty_bits() {
 }
 
 pub fn wait_wrap() {
-    show::heading(b"The Wait Counter wraps at 2^32");
+    print::heading(b"The Wait Counter wraps at 2^32");
     let mut chip = given::counted(given::ready(), 4294967295, 4294967295);
     chip = steps::set(chip, 1, 20);
     chip = steps::write(chip, 112, 0, 1);
@@ -154,7 +154,7 @@ pub fn wait_wrap() {
 }
 
 pub fn overrun_wrap() {
-    show::heading(b"The Overrun Counter wraps at 2^32, its flags set");
+    print::heading(b"The Overrun Counter wraps at 2^32, its flags set");
     let mut chip = given::counted(given::ready(), 4294967295, 4294967295);
     chip = steps::triggers(chip, 96, 8);
     chip = steps::read(chip, 6);

@@ -8,7 +8,6 @@ mod registers;
 mod resets;
 mod same;
 mod sending;
-mod show;
 mod steps;
 
 fn main() {

@@ -1,21 +1,21 @@
 // Records outside each bound of reply 15, and the last ones inside.
 use super::given;
-use super::show;
 use super::steps;
 use chip::chip::Chip;
+use printing::print;
 
 pub fn every_bound() {
-    show::heading(b"Outside: nine samples held");
+    print::heading(b"Outside: nine samples held");
     operations(given::queued(0, 9, 0));
-    show::heading(b"Outside: 16 words sent of a Trace sample");
+    print::heading(b"Outside: 16 words sent of a Trace sample");
     operations(given::queued(0, 1, 16));
-    show::heading(b"Outside: 80 words sent of a Resource sample");
+    print::heading(b"Outside: 80 words sent of a Resource sample");
     operations(given::queued(8, 1, 80));
-    show::heading(b"Outside: a word sent, and nothing held");
+    print::heading(b"Outside: a word sent, and nothing held");
     operations(given::queued(0, 0, 1));
-    show::heading(b"Outside: phase 10");
+    print::heading(b"Outside: phase 10");
     operations(given::phased(10));
-    show::heading(b"Outside: Timestamp 2^56");
+    print::heading(b"Outside: Timestamp 2^56");
     operations(given::stamped(given::ready(), 72057594037927936));
 }
 
@@ -44,7 +44,7 @@ fn ticks_and_sends(chip: Chip) {
 }
 
 pub fn largest() {
-    show::heading(b"Outside: the largest of each");
+    print::heading(b"Outside: the largest of each");
     operations(given::queued(8, 18446744073709551615, 0));
     steps::read(given::queued(8, 8, 18446744073709551615), 1);
     steps::read(given::phased(65535), 1);
@@ -52,13 +52,13 @@ pub fn largest() {
 }
 
 pub fn last_inside() {
-    show::heading(b"Inside: eight held, 15 words sent of a Trace sample");
+    print::heading(b"Inside: eight held, 15 words sent of a Trace sample");
     let trace = steps::send(given::queued(0, 8, 15));
     steps::read(trace, 1);
-    show::heading(b"Inside: 79 words sent of a Resource sample");
+    print::heading(b"Inside: 79 words sent of a Resource sample");
     let resource = steps::send(given::queued(8, 1, 79));
     steps::read(resource, 1);
-    show::heading(b"Inside: phase 9, and Timestamp 2^56 - 1");
+    print::heading(b"Inside: phase 9, and Timestamp 2^56 - 1");
     steps::timestamp_ticks(given::phased(9), 1);
     let last = given::stamped(Chip::fresh(), 72057594037927935);
     let stamp = steps::timestamp_ticks(last, 1);

@@ -1,11 +1,11 @@
 // Triggers, the queue, the shadows and the words.
 use super::given;
-use super::show;
 use super::steps;
 use chip::chip::Chip;
+use printing::print;
 
 pub fn listing_b() {
-    show::heading(b"Listing B, then the rest of its words");
+    print::heading(b"Listing B, then the rest of its words");
     let mut chip = Chip::fresh();
     chip = steps::set(chip, 1, 1);
     chip = steps::set(chip, 4, 1);
@@ -23,7 +23,7 @@ pub fn listing_b() {
 
 // 4, then 6, then 7, each where the later ones hold too.
 pub fn order_of_refusals() {
-    show::heading(b"4 before 6, 6 before 7, 7 before 8 and 10");
+    print::heading(b"4 before 6, 6 before 7, 7 before 8 and 10");
     let mut chip = Chip::fresh();
     chip = steps::write(chip, 96, 0, 0);
     chip = steps::write(chip, 96, 0, 3);
@@ -43,7 +43,7 @@ pub fn order_of_refusals() {
 
 // M6.
 pub fn last_word_frees() {
-    show::heading(b"A place is free with its sample's last word, not its first");
+    print::heading(b"A place is free with its sample's last word, not its first");
     let mut chip = given::ready();
     chip = steps::triggers(chip, 96, 8);
     chip = steps::write(chip, 96, 0, 1);
@@ -63,7 +63,7 @@ pub fn last_word_frees() {
 
 // M7, and the shadows to the last word.
 pub fn shadows_busy() {
-    show::heading(b"A Resource sample keeps the shadows to its last word");
+    print::heading(b"A Resource sample keeps the shadows to its last word");
     let mut chip = given::ready();
     chip = steps::write(chip, 112, 0, 1);
     chip = steps::write(chip, 112, 0, 1);
@@ -82,7 +82,7 @@ pub fn shadows_busy() {
 }
 
 pub fn both_reasons() {
-    show::heading(b"Both reasons: one loss, both flags; address 6 keeps the lost mark");
+    print::heading(b"Both reasons: one loss, both flags; address 6 keeps the lost mark");
     let mut chip = given::ready();
     chip = steps::write(chip, 112, 0, 1);
     chip = steps::triggers(chip, 96, 7);
@@ -102,7 +102,7 @@ pub fn both_reasons() {
 }
 
 pub fn write_wait() {
-    show::heading(b"Write wait: 10 and no loss");
+    print::heading(b"Write wait: 10 and no loss");
     let mut chip = given::ready();
     chip = steps::set(chip, 1, 4);
     chip = steps::write(chip, 112, 0, 1);
@@ -119,7 +119,7 @@ pub fn write_wait() {
 }
 
 pub fn read_wait() {
-    show::heading(b"Read wait: 10 or 11 while the shadows are busy");
+    print::heading(b"Read wait: 10 or 11 while the shadows are busy");
     let mut chip = given::ready();
     chip = steps::set(chip, 1, 16);
     chip = steps::write(chip, 112, 0, 1);
@@ -135,7 +135,7 @@ pub fn read_wait() {
 }
 
 pub fn lines_and_sources() {
-    show::heading(b"A sample has its line's number and that line's Source Address");
+    print::heading(b"A sample has its line's number and that line's Source Address");
     let mut chip = given::ready();
     chip = steps::set(chip, 17, 17);
     chip = steps::set(chip, 23, 23);
@@ -147,7 +147,7 @@ pub fn lines_and_sources() {
 
 // Counters, Source Address and Timestamp change between the trigger and the sends.
 pub fn fixed_at_trigger() {
-    show::heading(b"A sample's fields and counters are those at its trigger");
+    print::heading(b"A sample's fields and counters are those at its trigger");
     let mut chip = given::ready();
     chip = steps::set(chip, 8, 281470681808895);
     chip = steps::set(chip, 11, 65535);
@@ -166,7 +166,7 @@ pub fn fixed_at_trigger() {
 
 // A counter read copies too, but a busy shadow is kept from it.
 pub fn kept_from_reads() {
-    show::heading(b"A refused counter read and a lost trigger leave the shadows");
+    print::heading(b"A refused counter read and a lost trigger leave the shadows");
     let mut chip = given::ready();
     chip = steps::set(chip, 8, 281470681808895);
     chip = steps::set(chip, 11, 32768);

@@ -2,21 +2,21 @@
 use super::addresses::Trial;
 use super::addresses::sweep;
 use super::given;
-use super::show;
 use super::steps;
 use chip::chip::Chip;
+use printing::print;
 
 pub fn every_address() {
-    show::heading(b"Every address, read on a fresh chip");
+    print::heading(b"Every address, read on a fresh chip");
     sweep(Chip::fresh(), Trial::Read, 0, 255);
-    show::heading(b"Every address, written on a fresh chip with data 21 and lines 1");
+    print::heading(b"Every address, written on a fresh chip with data 21 and lines 1");
     sweep(Chip::fresh(), Trial::Write(21, 1), 0, 255);
-    show::heading(b"Every address, read where each register has its own number");
+    print::heading(b"Every address, read where each register has its own number");
     sweep(given::numbered(), Trial::Read, 0, 48);
 }
 
 pub fn large_addresses() {
-    show::heading(b"Large addresses do not wrap");
+    print::heading(b"Large addresses do not wrap");
     let mut chip = Chip::fresh();
     chip = steps::read(chip, 256);
     chip = steps::read(chip, 257);
@@ -31,22 +31,22 @@ pub fn large_addresses() {
 }
 
 pub fn every_line() {
-    show::heading(b"Every set of lines, at 96 on a fresh chip");
+    print::heading(b"Every set of lines, at 96 on a fresh chip");
     sweep(Chip::fresh(), Trial::Lines(96), 0, 255);
-    show::heading(b"Every set of lines, at 112 with sampling and level 0 on");
+    print::heading(b"Every set of lines, at 112 with sampling and level 0 on");
     sweep(given::ready(), Trial::Lines(112), 0, 255);
-    show::heading(b"Lines count only for 96 to 127: two lines, with sampling and level 0 on");
+    print::heading(b"Lines count only for 96 to 127: two lines, with sampling and level 0 on");
     sweep(given::ready(), Trial::Write(21, 3), 0, 129);
 }
 
 pub fn every_level() {
-    show::heading(b"Filter 32769: only levels 0 and 15 pass");
+    print::heading(b"Filter 32769: only levels 0 and 15 pass");
     sweep(given::filtering(32769), Trial::Write(0, 1), 95, 128);
 }
 
 // Bits beyond a register's width.
 pub fn widths() {
-    show::heading(b"Registers keep their width");
+    print::heading(b"Registers keep their width");
     let mut chip = Chip::fresh();
     chip = steps::set(chip, 4, 18446744073709551615);
     chip = steps::read(chip, 4);
@@ -61,7 +61,7 @@ pub fn widths() {
 }
 
 pub fn enabled_set() {
-    show::heading(b"Enabled set: only bits 0 to 15 act");
+    print::heading(b"Enabled set: only bits 0 to 15 act");
     let mut chip = Chip::fresh();
     chip = steps::set(chip, 11, 65536);
     chip = steps::set(chip, 11, 327683);
@@ -75,7 +75,7 @@ pub fn enabled_set() {
 }
 
 pub fn csr() {
-    show::heading(b"CSR settings go by pairs");
+    print::heading(b"CSR settings go by pairs");
     let mut chip = Chip::fresh();
     chip = steps::set(chip, 1, 1);
     chip = steps::read(chip, 1);

@@ -1,8 +1,8 @@
 // Resets, also in the middle of a sample.
 use super::given;
-use super::show;
 use super::steps;
 use chip::chip::Chip;
+use printing::print;
 
 // A chip with something in each part: registers, counters, shadows, phase 7, samples half sent, flags and the lost mark.
 fn used() -> Chip {
@@ -18,7 +18,7 @@ fn used() -> Chip {
 }
 
 pub fn software_reset() {
-    show::heading(b"Software reset, a sample half sent");
+    print::heading(b"Software reset, a sample half sent");
     let mut chip = used();
     chip = steps::set(chip, 0, 18446744073709551615);
     steps::is_fresh(chip, 1009);
@@ -32,7 +32,7 @@ pub fn software_reset() {
 
 // The phase begins anew: 7 ticks before the reset don't count.
 pub fn phase_after_reset() {
-    show::heading(b"Software reset clears the phase");
+    print::heading(b"Software reset clears the phase");
     let mut chip = Chip::fresh();
     chip = steps::timestamp_ticks(chip, 7);
     chip = steps::set(chip, 0, 0);
@@ -45,7 +45,7 @@ pub fn phase_after_reset() {
 }
 
 pub fn hardware_reset() {
-    show::heading(b"Hardware reset, a sample half sent");
+    print::heading(b"Hardware reset, a sample half sent");
     let mut chip = used();
     chip = steps::hardware_reset(chip);
     steps::is_fresh(chip, 0);

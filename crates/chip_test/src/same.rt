@@ -3,8 +3,18 @@ use chip::chip::Chip;
 use chip::control::Control;
 use counters::bank::Bank;
 use counters::switches::Switches;
+use printing::print;
 use queue::queue::Held;
 use queue::queue::Queue;
+
+// Says whether an operation left the record as it was.
+pub fn tell(same: bool) {
+    if same {
+        print::text(b" same");
+    } else {
+        print::text(b" changed");
+    }
+}
 
 pub fn same(a: Chip, b: Chip) -> bool {
     let stamp = a.stamp == b.stamp;

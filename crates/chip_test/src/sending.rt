@@ -1,8 +1,8 @@
 // Sending into a lent buffer of 100 places, each marked 43690 before.
 use super::given;
-use super::show;
 use super::steps;
 use chip::chip::Chip;
+use printing::print;
 
 // Two Trace samples: 32 words.
 fn two_held() -> Chip {
@@ -13,7 +13,7 @@ fn two_held() -> Chip {
 }
 
 pub fn lengths() {
-    show::heading(b"Buffers of no place, fewer than are left, as many, and more");
+    print::heading(b"Buffers of no place, fewer than are left, as many, and more");
     let mut chip = two_held();
     chip = steps::send_into(chip, 0);
     chip = steps::send_into(chip, 5);
@@ -30,7 +30,7 @@ pub fn lengths() {
 
 // The same words by one buffer and by single sends.
 pub fn as_single_sends() {
-    show::heading(b"A buffer has the words of single sends");
+    print::heading(b"A buffer has the words of single sends");
     let chip = two_held();
     steps::send_into(chip, 32);
     steps::send_into(chip, 100);
@@ -38,7 +38,7 @@ pub fn as_single_sends() {
 }
 
 pub fn resource_and_trace() {
-    show::heading(b"A Resource sample and a Trace sample, in one buffer and in three");
+    print::heading(b"A Resource sample and a Trace sample, in one buffer and in three");
     let mut chip = given::ready();
     chip = steps::write(chip, 112, 0, 1);
     chip = steps::write(chip, 112, 0, 1);
@@ -53,7 +53,7 @@ pub fn resource_and_trace() {
 }
 
 pub fn nothing_held() {
-    show::heading(b"A buffer send with nothing held");
+    print::heading(b"A buffer send with nothing held");
     let chip = Chip::fresh();
     steps::send_into(chip, 0);
     steps::send_into(chip, 100);

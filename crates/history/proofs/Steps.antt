@@ -20,7 +20,7 @@ use Rattle.counters.proofs.EachLaws.{each-length}
 use Rattle.queue.specs.Queue.{advanced, busy, emptyQueue, full, nextWord, sendMany, sendQueue, sendWords}
 use Rattle.queue.specs.declared.queue.Queue.{Queue}
 use Rattle.queue.proofs.SendLaws.{send-none, send-suc}
-use Rattle.chip.specs.Chip.{afterTicks, done, externalEvents, nodeTicks, read, readAt, readCounter, refuse, send, sendInto, sendNow, timestampTicks, withBank, withControl, withQueue, write, writeAt}
+use Rattle.chip.specs.Chip.{afterTicks, done, externalEvents, nodeTicks, read, readAt, readCounter, replied, send, sendInto, sendNow, timestampTicks, withBank, withControl, withQueue, write, writeAt}
 use Rattle.chip.specs.Control.{csrOf, waited}
 use Rattle.chip.specs.Operation.{Operation, opReset, opWrite, opRead, opTicks, opNodes, opEvents, opSend, opFill, step}
 use Rattle.chip.specs.Place.{placeOf}
@@ -140,7 +140,7 @@ module _ (l : Ledger) (q : Queue) (sh : List ℕ) (g : Good l q sh) where
   counterAnswer : ℕ → Bool → Bool → Answer
   counterAnswer i b w =
       cond b
-      (cond w (refuse Wait (withControl (waited (controlOf l)) (chipFor l q sh))) (record { chip = chipFor l q sh; value = 2 ^ 63; reply = Busy }))
+      (cond w (replied Wait (withControl (waited (controlOf l)) (chipFor l q sh))) (record { chip = chipFor l q sh; value = 2 ^ 63; reply = Busy }))
       (done (getD (map wrapped (l .events)) i 0) (withBank (copied (record { values = map wrapped (l .events); shadows = sh })) (chipFor l q sh)))
 
   counter-by : (i : ℕ) (b w : Bool) → busy q ≡ b → Kept (cond (b && w) (withErrors (waitedOne (l .errors)) l) l) (cond b (cond w (says 10 0) (says 11 (2 ^ 63))) (says 0 (getD (l .events) i 0 % 2 ^ 32))) (counterAnswer i b w)
@@ -234,11 +234,11 @@ module _ (l : Ledger) (q : Queue) (sh : List ℕ) (g : Good l q sh) where
   send-kept : Kept (sentMore 1 l) (cond (eqb (left l) 0) (says 5 0) (says 0 (getD (wordsOfAll (l .taken)) (l .sent) 0))) (sendNow (chipFor l q sh))
   send-kept = go (eqb (q .held) 0) refl
     where
-      go : (b : Bool) → eqb (q .held) 0 ≡ b → Kept (sentMore 1 l) (cond (eqb (left l) 0) (says 5 0) (says 0 (getD (wordsOfAll (l .taken)) (l .sent) 0))) (cond b (refuse NoWord (chipFor l q sh)) (done (nextWord sh q) (withQueue (advanced q) (chipFor l q sh))))
+      go : (b : Bool) → eqb (q .held) 0 ≡ b → Kept (sentMore 1 l) (cond (eqb (left l) 0) (says 5 0) (says 0 (getD (wordsOfAll (l .taken)) (l .sent) 0))) (cond b (replied NoWord (chipFor l q sh)) (done (nextWord sh q) (withQueue (advanced q) (chipFor l q sh))))
       go true e =
           let none : left l ≡ 0 = holds-none (l .taken) (l .sent) sh q (g .holds) (eqb-true (q .held) 0 e) in
           let now : l .sent ≡ l .sent + min 1 (left l) = omega arith in
-          subst (λ (x : Said). Kept (sentMore 1 l) x (refuse NoWord (chipFor l q sh)))
+          subst (λ (x : Said). Kept (sentMore 1 l) x (replied NoWord (chipFor l q sh)))
           (ap (λ (b : Bool). cond b (says 5 0) (says 0 (getD (wordsOfAll (l .taken)) (l .sent) 0))) (sym (eq-eqb (left l) 0 none)))
           (record {
             agrees = record { queue = q; shadows = sh; is = refl; good = record { holds = subst (λ (n : ℕ). Holds (l .taken) n sh q) now (g .holds); sixteen = g .sixteen; events = g .events } };

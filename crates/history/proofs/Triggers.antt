@@ -16,7 +16,7 @@ use Rattle.counters.specs.Bank.{bit, copied}
 use Rattle.queue.specs.Queue.{busy, full, heldSample, pushed}
 use Rattle.queue.specs.declared.queue.Held.{Held}
 use Rattle.queue.specs.declared.queue.Queue.{Queue}
-use Rattle.chip.specs.Chip.{blocked, done, fateOf, headerOf, lacksRoom, lineOf, oneLine, refuse, sampleNow, takeSample, trigger, triggerBy, withControl}
+use Rattle.chip.specs.Chip.{blocked, done, fateOf, headerOf, lacksRoom, lineOf, oneLine, replied, sampleNow, takeSample, trigger, triggerBy, withControl}
 use Rattle.chip.specs.Control.{one, overran, waited}
 use Rattle.chip.specs.Control.{withErrors as Control·withErrors}
 use Rattle.chip.specs.Fate.{Fate, fate, fateNumber, isOff, isFiltered, isLost, isTold, isTaken}
@@ -78,7 +78,7 @@ module _ (l : Ledger) (q : Queue) (sh : List ℕ) (g : Good l q sh) where
   busy-same = holds-busy (l .taken) (l .sent) sh q (g .holds)
 
   blocked-same : (r : Bool) → blocked r q ≡ isBlocked r (held l)
-  blocked-same r = ap (λ (b : Bool). cond r b false) busy-same
+  blocked-same r = ap (λ (b : Bool). r && b) busy-same
 
   -- the chip's fate is the ledger's
   fate-same : (r : Bool) (level : ℕ) → fateOf r level (chipFor l q sh) ≡ fateIn r level l
@@ -119,7 +119,7 @@ module _ (l : Ledger) (q : Queue) (sh : List ℕ) (g : Good l q sh) where
   bank-same false = refl
 
   -- one wait more
-  pub told : Kept (withErrors (waitedOne (l .errors)) l) (says 10 0) (refuse Wait (withControl (waited (controlOf l)) (chipFor l q sh)))
+  pub told : Kept (withErrors (waitedOne (l .errors)) l) (says 10 0) (replied Wait (withControl (waited (controlOf l)) (chipFor l q sh)))
   told =
       record {
         agrees =
@@ -190,7 +190,7 @@ module _ (l : Ledger) (q : Queue) (sh : List ℕ) (g : Good l q sh) where
       c : Chip
       c = chipFor l q sh
 
-      go : (b : Bool) → oneLine lines ≡ b → Kept (cond b (byFate (fateIn r level l) r (lineOf lines) word l) l) (cond b (says (fateNumber (fateIn r level l)) 0) (says 4 0)) (cond b (triggerBy (fateOf r level c) r (lineOf lines) word c) (refuse Lines c))
+      go : (b : Bool) → oneLine lines ≡ b → Kept (cond b (byFate (fateIn r level l) r (lineOf lines) word l) l) (cond b (says (fateNumber (fateIn r level l)) 0) (says 4 0)) (cond b (triggerBy (fateOf r level c) r (lineOf lines) word c) (replied Lines c))
       go true e =
           subst (λ (f : Fate). Kept (byFate (fateIn r level l) r (lineOf lines) word l) (says (fateNumber (fateIn r level l)) 0) (triggerBy f r (lineOf lines) word (chipFor l q sh))) (sym (fate-same r level))
           (by-fate (fateIn r level l) r level (lineOf lines) word (one-line lines e) (fate-same r level))

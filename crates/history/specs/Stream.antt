@@ -1,7 +1,7 @@
 -- Document 01, "Triggers and the queue": "the list decides alone: samples taken since the last reset, in order with their lengths, and
 -- words sent since then, say which are held".
 use Prim.Native.Nat.{ℕ, _+_, _-_}
-use mathlib.Core.Bool.{Bool, false, cond, _||_}
+use mathlib.Core.Bool.{Bool, false, cond, _&&_, _||_}
 use mathlib.Core.List.{List, [], _∷_, _++_}
 use lib.Dec.{leb}
 use lib.ListN.{length}
@@ -36,7 +36,7 @@ abbrev pub isFull : List Sample → Bool
 isFull held = leb 8 (length held)
 
 abbrev pub isBlocked : Bool → List Sample → Bool
-isBlocked resource held = cond resource (anyHeld held) false
+isBlocked resource held = resource && anyHeld held
 
 -- how many of the samples are Trace, and how many Resource samples
 unfoldable pub tracesOf : List Sample → ℕ

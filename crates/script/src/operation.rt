@@ -1,12 +1,11 @@
 // A record of twelve bytes, and what it does.
 use chip::chip::Answer;
 use chip::chip::Chip;
-use chip::reply::Reply;
+use chip::reply::number_of;
 ghost use mathlib.Core.Path.{_≡_};
 ghost use Prim.Native.Nat.{_+_, _≤_, _<_, _^_};
 ghost use lib.ListN.{drop, length, take};
 ghost use Rattle.words.specs.Bytes.{number};
-ghost use Rattle.chip.specs.Reply.{replyNumber};
 ghost use Rattle.script.specs.Record.{byKind, events, nodes, operationOf, outcomeOf, runOf, ticks};
 
 // What a record asks for; Bad is reply 9.
@@ -141,25 +140,5 @@ fn numbered(answer: Answer) -> Outcome
         chip,
         value: answer.value,
         number: number_of(reply),
-    }
-}
-
-// Document 01's number of a reply.
-pub fn number_of(reply: Reply) -> u64
-    ensures { λ r. ⌜ r ≡ replyNumber reply ⌝ }
-{
-    match reply {
-        Reply::Done => 0,
-        Reply::TooHigh => 1,
-        Reply::Nothing => 2,
-        Reply::Forbidden => 3,
-        Reply::Lines => 4,
-        Reply::NoWord => 5,
-        Reply::Off => 6,
-        Reply::Filtered => 7,
-        Reply::Lost => 8,
-        Reply::Wait => 10,
-        Reply::Busy => 11,
-        Reply::Outside => 15,
     }
 }

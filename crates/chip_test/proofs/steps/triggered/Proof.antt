@@ -19,8 +19,8 @@ loop-holds c = search needs
 write-requires : tie.Need-write-requires Inv-loop μ-loop
 write-requires c κs = search needs
 
-reply-number-requires : tie.Need-reply-number-requires Inv-loop μ-loop
-reply-number-requires c κs = search needs
+number-of-requires : tie.Need-number-of-requires Inv-loop μ-loop
+number-of-requires c κs = search needs
 
 add-requires : tie.Need-add-requires Inv-loop μ-loop
 add-requires c κs = search needs
@@ -49,7 +49,7 @@ triggered-spec =
     no-run-requires
     loop-holds
     write-requires
-    reply-number-requires
+    number-of-requires
     add-requires
     add-i
     loop-less

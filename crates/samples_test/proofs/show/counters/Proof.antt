@@ -16,14 +16,14 @@ no-run-requires c κs = search needs
 loop-holds : tie.Need-loop-holds Inv-loop μ-loop
 loop-holds c = search needs
 
-mul-wide32 : tie.Need-mul-wide32 Inv-loop μ-loop
-mul-wide32 c = search needs
+mul-wide : tie.Need-mul-wide Inv-loop μ-loop
+mul-wide c = search needs
 
-array-read-wide32 : tie.Need-array-read-wide32 Inv-loop μ-loop
-array-read-wide32 c = search needs
+array-read-wide : tie.Need-array-read-wide Inv-loop μ-loop
+array-read-wide c = search needs
 
-wide32-requires : tie.Need-wide32-requires Inv-loop μ-loop
-wide32-requires c κs = search needs
+wide-requires : tie.Need-wide-requires Inv-loop μ-loop
+wide-requires c κs = search needs
 
 add-requires : tie.Need-add-requires Inv-loop μ-loop
 add-requires c κs = search needs
@@ -51,9 +51,9 @@ counters-spec =
     μ-loop
     no-run-requires
     loop-holds
-    mul-wide32
-    array-read-wide32
-    wide32-requires
+    mul-wide
+    array-read-wide
+    wide-requires
     add-requires
     add-i
     loop-less

@@ -1,7 +1,7 @@
 -- `chip::chip::Chip::blocked` meets its contract: the test decides. Assumes nothing.
 use borrow.Author.Needs.{needs}
 use mathlib.Core.Path.{_≡_, refl, sym, ap, ap₂, _∙_}
-use mathlib.Core.Bool.{Bool, false, cond}
+use mathlib.Core.Bool.{Bool, _&&_}
 use Rattle.queue.specs.Queue.{busy}
 use Rattle.chip.proofs.chip.Chip.blocked.Statement.{statement}
 use Rattle.chip.proofs.chip.Chip.blocked.Tie as tie
@@ -12,7 +12,7 @@ busy-requires c κs = search needs
 returns : tie.Need-returns
 returns c =
     let a = c .before .before .args in
-    c .busy .ensures ∙ ap (λ (b : Bool). cond b (busy (a .self .queue)) false) (sym (c .before .if1 .taken))
+    c .busy .ensures ∙ ap (λ (b : Bool). b && busy (a .self .queue)) (sym (c .before .if1 .taken))
 
 returns-2 : tie.Need-returns-2
 returns-2 c = search needs

@@ -23,16 +23,16 @@ returns c =
     ∙ ap (λ b. done 0 (withBank b s)) (c .before .ticked .ensures)
     ∙ guard-in s _ (sym (c .before .before .before .inside .ensures) ∙ c .before .before .if1 .taken)
 
-refuse-requires : tie.Need-refuse-requires
-refuse-requires c κs = search needs
+replied-requires : tie.Need-replied-requires
+replied-requires c κs = search needs
 
 returns-2 : tie.Need-returns-2
 unfolding nodeTicks
 returns-2 c =
     let s = c .before .before .before .args .self in
-    c .refuse .ensures ∙ guard-out s _ (sym (c .before .before .inside .ensures) ∙ c .before .if1 .left)
+    c .replied .ensures ∙ guard-out s _ (sym (c .before .before .inside .ensures) ∙ c .before .if1 .left)
 
 pub node-ticks-spec : {M : Type 1} → statement M
 node-ticks-spec =
     tie.close
-    (tie.spec inside-requires ticked-requires done-requires returns refuse-requires returns-2)
+    (tie.spec inside-requires ticked-requires done-requires returns replied-requires returns-2)

@@ -12,20 +12,20 @@ use Rattle.chip.proofs.chip.Chip.read_at.Tie as tie
 enum-told : tie.Need-enum-told
 enum-told c = search needs
 
-refuse-requires : tie.Need-refuse-requires
-refuse-requires c κs = search needs
+replied-requires : tie.Need-replied-requires
+replied-requires c κs = search needs
 
 enum-told-2 : tie.Need-enum-told-2
 enum-told-2 c = search needs
 
-refuse-requires-2 : tie.Need-refuse-requires-2
-refuse-requires-2 c κs = search needs
+replied-requires-2 : tie.Need-replied-requires-2
+replied-requires-2 c κs = search needs
 
 enum-told-3 : tie.Need-enum-told-3
 enum-told-3 c = search needs
 
-refuse-requires-3 : tie.Need-refuse-requires-3
-refuse-requires-3 c κs = search needs
+replied-requires-3 : tie.Need-replied-requires-3
+replied-requires-3 c κs = search needs
 
 enum-told-4 : tie.Need-enum-told-4
 enum-told-4 c = search needs
@@ -87,8 +87,8 @@ done-requires-6 c κs = search needs
 enum-told-10 : tie.Need-enum-told-10
 enum-told-10 c = search needs
 
-refuse-requires-4 : tie.Need-refuse-requires-4
-refuse-requires-4 c κs = search needs
+replied-requires-4 : tie.Need-replied-requires-4
+replied-requires-4 c κs = search needs
 
 enum-told-11 : tie.Need-enum-told-11
 enum-told-11 c = search needs
@@ -102,8 +102,8 @@ done-requires-7 c κs = search needs
 enum-told-12 : tie.Need-enum-told-12
 enum-told-12 c = search needs
 
-refuse-requires-5 : tie.Need-refuse-requires-5
-refuse-requires-5 c κs = search needs
+replied-requires-5 : tie.Need-replied-requires-5
+replied-requires-5 c κs = search needs
 
 enum-known-place : tie.Need-enum-known-place
 enum-known-place c = search needs
@@ -126,32 +126,32 @@ read-counter-requires c κs = search needs
 enum-told-13 : tie.Need-enum-told-13
 enum-told-13 c = search needs
 
-refuse-requires-6 : tie.Need-refuse-requires-6
-refuse-requires-6 c κs = search needs
+replied-requires-6 : tie.Need-replied-requires-6
+replied-requires-6 c κs = search needs
 
 enum-told-14 : tie.Need-enum-told-14
 enum-told-14 c = search needs
 
-refuse-requires-7 : tie.Need-refuse-requires-7
-refuse-requires-7 c κs = search needs
+replied-requires-7 : tie.Need-replied-requires-7
+replied-requires-7 c κs = search needs
 
 returns : tie.Need-returns
 unfolding readAt
 returns c =
     let s = c .before .before .before .args .self in
-    c .refuse .ensures ∙ ap (λ (p : Place). readAt p s) (sym (c .before .enum-told .given .1))
+    c .replied .ensures ∙ ap (λ (p : Place). readAt p s) (sym (c .before .enum-told .given .1))
 
 returns-2 : tie.Need-returns-2
 unfolding readAt
 returns-2 c =
     let s = c .before .before .before .args .self in
-    c .refuse2 .ensures ∙ ap (λ (p : Place). readAt p s) (sym (c .before .enum-told2 .given .1))
+    c .replied2 .ensures ∙ ap (λ (p : Place). readAt p s) (sym (c .before .enum-told2 .given .1))
 
 returns-3 : tie.Need-returns-3
 unfolding readAt
 returns-3 c =
     let s = c .before .before .before .args .self in
-    c .refuse3 .ensures ∙ ap (λ (p : Place). readAt p s) (sym (c .before .enum-told3 .given .1))
+    c .replied3 .ensures ∙ ap (λ (p : Place). readAt p s) (sym (c .before .enum-told3 .given .1))
 
 returns-4 : tie.Need-returns-4
 unfolding readAt
@@ -193,7 +193,7 @@ returns-10 : tie.Need-returns-10
 unfolding readAt
 returns-10 c =
     let s = c .before .before .before .args .self in
-    c .refuse4 .ensures ∙ ap (λ (p : Place). readAt p s) (sym (c .before .enum-told10 .given .1))
+    c .replied4 .ensures ∙ ap (λ (p : Place). readAt p s) (sym (c .before .enum-told10 .given .1))
 
 returns-11 : tie.Need-returns-11
 unfolding readAt
@@ -205,7 +205,7 @@ returns-12 : tie.Need-returns-12
 unfolding readAt
 returns-12 c =
     let s = c .before .before .before .args .self in
-    c .refuse5 .ensures ∙ ap (λ (p : Place). readAt p s) (sym (c .before .enum-told12 .given .1))
+    c .replied5 .ensures ∙ ap (λ (p : Place). readAt p s) (sym (c .before .enum-told12 .given .1))
 
 returns-13 : tie.Need-returns-13
 unfolding readAt
@@ -223,24 +223,24 @@ returns-15 : tie.Need-returns-15
 unfolding readAt
 returns-15 c =
     let s = c .before .before .before .args .self in
-    c .refuse6 .ensures ∙ ap (λ (p : Place). readAt p s) (sym (c .before .enum-told13 .given .1))
+    c .replied6 .ensures ∙ ap (λ (p : Place). readAt p s) (sym (c .before .enum-told13 .given .1))
 
 returns-16 : tie.Need-returns-16
 unfolding readAt
 returns-16 c =
     let s = c .before .before .before .args .self in
-    c .refuse7 .ensures ∙ ap (λ (p : Place). readAt p s) (sym (c .before .enum-told14 .given .1))
+    c .replied7 .ensures ∙ ap (λ (p : Place). readAt p s) (sym (c .before .enum-told14 .given .1))
 
 pub read-at-spec : {M : Type 1} → statement M
 read-at-spec =
     tie.close
     (tie.spec
     enum-told
-    refuse-requires
+    replied-requires
     enum-told-2
-    refuse-requires-2
+    replied-requires-2
     enum-told-3
-    refuse-requires-3
+    replied-requires-3
     enum-told-4
     full-requires
     busy-requires
@@ -261,12 +261,12 @@ read-at-spec =
     selection-requires
     done-requires-6
     enum-told-10
-    refuse-requires-4
+    replied-requires-4
     enum-told-11
     cast-done-4
     done-requires-7
     enum-told-12
-    refuse-requires-5
+    replied-requires-5
     enum-known-place
     source-requires
     cast-done-5
@@ -274,9 +274,9 @@ read-at-spec =
     enum-known-place-2
     read-counter-requires
     enum-told-13
-    refuse-requires-6
+    replied-requires-6
     enum-told-14
-    refuse-requires-7
+    replied-requires-7
     returns
     returns-2
     returns-3

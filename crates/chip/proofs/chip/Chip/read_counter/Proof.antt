@@ -7,7 +7,7 @@ use lib.ListN.{getD}
 use Rattle.counters.specs.Bank.{copied}
 use Rattle.counters.specs.declared.bank.Bank.{Bank}
 use Rattle.queue.specs.Queue.{busy}
-use Rattle.chip.specs.Chip.{done, readCounter, refuse, withBank, withControl}
+use Rattle.chip.specs.Chip.{done, readCounter, replied, withBank, withControl}
 use Rattle.chip.specs.Control.{waited}
 use Rattle.chip.specs.declared.chip.Answer.{Answer}
 use Rattle.chip.specs.declared.chip.Chip.{Chip}
@@ -17,9 +17,9 @@ use Rattle.chip.proofs.chip.Chip.read_counter.Statement.{statement}
 use Rattle.chip.proofs.chip.Chip.read_counter.Tie as tie
 
 -- the answer by what the two tests say
-by-tests : (i : ℕ) (s : Chip) {held wait : Bool} → busy (s .queue) ≡ held → s .control .readwait ≡ wait → readCounter i s ≡ cond held (cond wait (refuse Wait (withControl (waited (s .control)) s)) (record { chip = s; value = 2 ^ 63; reply = Busy })) (done (getD (s .bank .values) i 0) (withBank (copied (s .bank)) s))
+by-tests : (i : ℕ) (s : Chip) {held wait : Bool} → busy (s .queue) ≡ held → s .control .readwait ≡ wait → readCounter i s ≡ cond held (cond wait (replied Wait (withControl (waited (s .control)) s)) (record { chip = s; value = 2 ^ 63; reply = Busy })) (done (getD (s .bank .values) i 0) (withBank (copied (s .bank)) s))
 unfolding readCounter
-by-tests i s p q = λ k. cond (p k) (cond (q k) (refuse Wait (withControl (waited (s .control)) s)) (record { chip = s; value = 2 ^ 63; reply = Busy })) (done (getD (s .bank .values) i 0) (withBank (copied (s .bank)) s))
+by-tests i s p q = λ k. cond (p k) (cond (q k) (replied Wait (withControl (waited (s .control)) s)) (record { chip = s; value = 2 ^ 63; reply = Busy })) (done (getD (s .bank .values) i 0) (withBank (copied (s .bank)) s))
 
 busy-requires : tie.Need-busy-requires
 busy-requires c κs = search needs
@@ -30,14 +30,14 @@ waited-requires c κs = search needs
 controlled-requires : tie.Need-controlled-requires
 controlled-requires c κs = search needs
 
-refuse-requires : tie.Need-refuse-requires
-refuse-requires c κs = search needs
+replied-requires : tie.Need-replied-requires
+replied-requires c κs = search needs
 
 returns : tie.Need-returns
 returns c =
     let a = c .before .before .before .before .before .before .args in
-    c .refuse .ensures
-    ∙ ap (refuse Wait) (c .before .controlled .ensures ∙ ap (λ (k : Control). withControl k (a .self)) (c .before .before .waited .ensures))
+    c .replied .ensures
+    ∙ ap (replied Wait) (c .before .controlled .ensures ∙ ap (λ (k : Control). withControl k (a .self)) (c .before .before .waited .ensures))
     ∙ sym (by-tests (a .index) (a .self) (sym (c .before .before .before .before .before .busy .ensures) ∙ c .before .before .before .before .if1 .taken) (c .before .before .before .if2 .taken))
 
 returns-2 : tie.Need-returns-2
@@ -74,7 +74,7 @@ read-counter-spec =
     busy-requires
     waited-requires
     controlled-requires
-    refuse-requires
+    replied-requires
     returns
     returns-2
     copied-requires

@@ -32,8 +32,8 @@ returns c =
       c .before .before .before .before .send-into .ensures .1 ∙ ap (λ (b : Bool). cond b (sendBuffer (s .bank .shadows) (s .queue) (a .out .now)) (a .out .now)) (sym yes),
     )
 
-refuse-requires : tie.Need-refuse-requires
-refuse-requires c κs = search needs
+replied-requires : tie.Need-replied-requires
+replied-requires c κs = search needs
 
 returns-2 : tie.Need-returns-2
 unfolding sendInto sentBuffer
@@ -41,7 +41,7 @@ returns-2 c =
     let a = c .before .before .before .before .args in
     let s = a .self in
     let out = sym (c .before .before .inside .ensures) ∙ c .before .if1 .left in (
-      c .refuse .ensures ∙ guard-out s _ out,
+      c .replied .ensures ∙ guard-out s _ out,
       ap (λ (b : Bool). cond b (sendBuffer (s .bank .shadows) (s .queue) (a .out .now)) (a .out .now)) (sym out),
     )
 
@@ -54,5 +54,5 @@ send-into-spec =
     done-requires
     same-length
     returns
-    refuse-requires
+    replied-requires
     returns-2)

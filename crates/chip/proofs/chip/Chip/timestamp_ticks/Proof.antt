@@ -1,14 +1,8 @@
 -- `chip::chip::Chip::timestamp_ticks` meets its contract: inside the bounds the ticks count, else 15. Assumes nothing.
 use borrow.Author.Needs.{needs}
 use mathlib.Core.Path.{_≡_, refl, sym, ap, ap₂, _∙_}
-use mathlib.Core.Bool.{Bool, true, _&&_}
-use Prim.Native.Nat.{_^_, _<_}
-use lib.Dec.{ltb}
-use borrow.Author.Tests.{ltb-true}
-use Rattle.samples.proofs.Gather.{both-right}
-use Rattle.queue.specs.Queue.{insideQueue}
-use Rattle.chip.specs.Chip.{done, inside, timestampTicks}
-use Rattle.chip.proofs.ChipLaws.{guard-in, guard-out}
+use Rattle.chip.specs.Chip.{done, timestampTicks}
+use Rattle.chip.proofs.ChipLaws.{guard-in, guard-out, inside-stamp}
 use Rattle.chip.proofs.chip.Chip.timestamp_ticks.Statement.{statement}
 use Rattle.chip.proofs.chip.Chip.timestamp_ticks.Tie as tie
 
@@ -18,8 +12,7 @@ inside-requires c κs = search needs
 after-ticks-requires : tie.Need-after-ticks-requires
 after-ticks-requires c κs =
     let s = c .before .before .args .self in
-    let in-bounds : inside s ≡ true = sym (c .before .inside .ensures) ∙ c .if1 .taken in
-    ltb-true (s .stamp) (2 ^ 56) (both-right (ltb (s .switches .phase) 10) (ltb (s .stamp) (2 ^ 56)) (both-right (insideQueue (s .queue)) (ltb (s .switches .phase) 10 && ltb (s .stamp) (2 ^ 56)) in-bounds))
+    inside-stamp s (sym (c .before .inside .ensures) ∙ c .if1 .taken)
 
 done-requires : tie.Need-done-requires
 done-requires c κs = search needs
@@ -32,16 +25,16 @@ returns c =
     ∙ ap (done 0) (c .before .after-ticks .ensures)
     ∙ guard-in s _ (sym (c .before .before .before .inside .ensures) ∙ c .before .before .if1 .taken)
 
-refuse-requires : tie.Need-refuse-requires
-refuse-requires c κs = search needs
+replied-requires : tie.Need-replied-requires
+replied-requires c κs = search needs
 
 returns-2 : tie.Need-returns-2
 unfolding timestampTicks
 returns-2 c =
     let s = c .before .before .before .args .self in
-    c .refuse .ensures ∙ guard-out s _ (sym (c .before .before .inside .ensures) ∙ c .before .if1 .left)
+    c .replied .ensures ∙ guard-out s _ (sym (c .before .before .inside .ensures) ∙ c .before .if1 .left)
 
 pub timestamp-ticks-spec : {M : Type 1} → statement M
 timestamp-ticks-spec =
     tie.close
-    (tie.spec inside-requires after-ticks-requires done-requires returns refuse-requires returns-2)
+    (tie.spec inside-requires after-ticks-requires done-requires returns replied-requires returns-2)

@@ -7,7 +7,7 @@ use lib.Count.{onesIn, trailing-le}
 use lib.Dec.{eqb}
 use borrow.Author.Tests.{eq-eqb, ne-eqb}
 use Rattle.words.proofs.WordLaws.{ones-in}
-use Rattle.chip.specs.Chip.{fateOf, lineOf, refuse, trigger, triggerBy}
+use Rattle.chip.specs.Chip.{fateOf, lineOf, replied, trigger, triggerBy}
 use Rattle.chip.specs.declared.reply.Reply.the-variants.{Lines}
 use Rattle.chip.proofs.chip.Chip.trigger.Statement.{statement}
 use Rattle.chip.proofs.chip.Chip.trigger.Tie as tie
@@ -20,19 +20,19 @@ unfolding trigger
 returns c =
     let a = c .before .before .args in
     c .trigger-line .ensures
-    ∙ ap (λ (b : Bool). cond b (triggerBy (fateOf (a .resource) (a .level) (a .self)) (a .resource) (lineOf (a .lines)) (a .word) (a .self)) (refuse Lines (a .self)))
+    ∙ ap (λ (b : Bool). cond b (triggerBy (fateOf (a .resource) (a .level) (a .self)) (a .resource) (lineOf (a .lines)) (a .word) (a .self)) (replied Lines (a .self)))
     (sym (eq-eqb (onesIn 8 (a .lines)) 1 (sym (ones-in 8 (a .lines) (search needs)) ∙ c .before .if1 .taken)))
 
-refuse-requires : tie.Need-refuse-requires
-refuse-requires c κs = search needs
+replied-requires : tie.Need-replied-requires
+replied-requires c κs = search needs
 
 returns-2 : tie.Need-returns-2
 unfolding trigger
 returns-2 c =
     let a = c .before .before .args in
-    c .refuse .ensures
-    ∙ ap (λ (b : Bool). cond b (triggerBy (fateOf (a .resource) (a .level) (a .self)) (a .resource) (lineOf (a .lines)) (a .word) (a .self)) (refuse Lines (a .self)))
+    c .replied .ensures
+    ∙ ap (λ (b : Bool). cond b (triggerBy (fateOf (a .resource) (a .level) (a .self)) (a .resource) (lineOf (a .lines)) (a .word) (a .self)) (replied Lines (a .self)))
     (sym (ne-eqb (onesIn 8 (a .lines)) 1 (λ q. c .before .if1 .left (ones-in 8 (a .lines) (search needs) ∙ q))))
 
 pub trigger-spec : {M : Type 1} → statement M
-trigger-spec = tie.close (tie.spec trigger-line-requires returns refuse-requires returns-2)
+trigger-spec = tie.close (tie.spec trigger-line-requires returns replied-requires returns-2)

@@ -5,7 +5,7 @@ use mathlib.Core.Bool.{Bool, true, false, cond, _||_}
 use Prim.Native.Nat.{ℕ}
 use borrow.Author.Tests.{not-true, not-false}
 use Rattle.counters.specs.Bank.{bit}
-use Rattle.chip.specs.Chip.{done, fateOf, lacksRoom, refuse, triggerBy, withControl}
+use Rattle.chip.specs.Chip.{done, fateOf, lacksRoom, replied, triggerBy, withControl}
 use Rattle.chip.specs.Fate.{Fate, fate}
 use Rattle.chip.specs.Control.{overran}
 use Rattle.chip.specs.declared.chip.Answer.{Answer}
@@ -19,29 +19,29 @@ use Rattle.chip.proofs.chip.Chip.trigger_line.Tie as tie
 by-fate : (resource : Bool) (level line word : ℕ) (s : Chip) {sampling passes lacking writewait : Bool} → s .control .sampling ≡ sampling → bit (s .control .filter) level ≡ passes → lacksRoom resource (s .queue) ≡ lacking → s .control .writewait ≡ writewait → triggerBy (fateOf resource level s) resource line word s ≡ triggerBy (fate sampling passes lacking writewait) resource line word s
 by-fate resource level line word s a b d e = λ k. triggerBy (fate (a k) (b k) (d k) (e k)) resource line word s
 
-refuse-requires : tie.Need-refuse-requires
-refuse-requires c κs = search needs
+replied-requires : tie.Need-replied-requires
+replied-requires c κs = search needs
 
 returns : tie.Need-returns
 unfolding triggerBy
 returns c =
     let a = c .before .before .before .before .args in
     let s = a .self in
-    c .refuse .ensures
+    c .replied .ensures
     ∙ sym (by-fate (a .resource) (a .level) (a .line) (a .word) s (not-true _ (c .before .if1 .taken)) refl refl refl)
 
 passes-requires : tie.Need-passes-requires
 passes-requires c κs = search needs
 
-refuse-requires-2 : tie.Need-refuse-requires-2
-refuse-requires-2 c κs = search needs
+replied-requires-2 : tie.Need-replied-requires-2
+replied-requires-2 c κs = search needs
 
 returns-2 : tie.Need-returns-2
 unfolding triggerBy
 returns-2 c =
     let a = c .before .before .before .before .before .before .args in
     let s = a .self in
-    c .refuse2 .ensures
+    c .replied2 .ensures
     ∙ sym (by-fate (a .resource) (a .level) (a .line) (a .word) s (not-false _ (c .before .before .before .if1 .left)) (sym (c .before .before .passes .ensures) ∙ not-true _ (c .before .if2 .taken)) refl refl)
 
 full-requires : tie.Need-full-requires
@@ -56,15 +56,15 @@ waited-requires c κs = search needs
 controlled-requires : tie.Need-controlled-requires
 controlled-requires c κs = search needs
 
-refuse-requires-3 : tie.Need-refuse-requires-3
-refuse-requires-3 c κs = search needs
+replied-requires-3 : tie.Need-replied-requires-3
+replied-requires-3 c κs = search needs
 
 returns-3 : tie.Need-returns-3
 unfolding triggerBy
 returns-3 c =
     let a = c .before .before .before .before .before .before .before .before .before .before .before .before .args in
     let s = a .self in
-    c .refuse3 .ensures ∙ ap (refuse Wait) (c .before .controlled .ensures ∙ ap (λ (k : Control). withControl k s) (c .before .before .waited .ensures))
+    c .replied3 .ensures ∙ ap (replied Wait) (c .before .controlled .ensures ∙ ap (λ (k : Control). withControl k s) (c .before .before .waited .ensures))
     ∙ sym (by-fate (a .resource) (a .level) (a .line) (a .word) s (not-false _ (c .before .before .before .before .before .before .before .before .before .if1 .left)) (sym (c .before .before .before .before .before .before .before .before .passes .ensures) ∙ not-false _ (c .before .before .before .before .before .before .before .if2 .left)) (ap₂ (λ (x y : Bool). x || y) (sym (c .before .before .before .before .before .before .full .ensures)) (sym (c .before .before .before .before .before .blocked .ensures)) ∙ c .before .before .before .before .if3 .taken) (c .before .before .before .if4 .taken))
 
 overran-requires : tie.Need-overran-requires
@@ -73,15 +73,15 @@ overran-requires c κs = search needs
 controlled-requires-2 : tie.Need-controlled-requires-2
 controlled-requires-2 c κs = search needs
 
-refuse-requires-4 : tie.Need-refuse-requires-4
-refuse-requires-4 c κs = search needs
+replied-requires-4 : tie.Need-replied-requires-4
+replied-requires-4 c κs = search needs
 
 returns-4 : tie.Need-returns-4
 unfolding triggerBy
 returns-4 c =
     let a = c .before .before .before .before .before .before .before .before .before .before .before .before .args in
     let s = a .self in
-    c .refuse4 .ensures ∙ ap (refuse Lost) (c .before .controlled2 .ensures ∙ ap (λ (k : Control). withControl k s) (c .before .before .overran .ensures ∙ ap₂ (λ (x y : Bool). overran x y (s .control)) (c .before .before .before .before .before .before .full .ensures) (c .before .before .before .before .before .blocked .ensures)))
+    c .replied4 .ensures ∙ ap (replied Lost) (c .before .controlled2 .ensures ∙ ap (λ (k : Control). withControl k s) (c .before .before .overran .ensures ∙ ap₂ (λ (x y : Bool). overran x y (s .control)) (c .before .before .before .before .before .before .full .ensures) (c .before .before .before .before .before .blocked .ensures)))
     ∙ sym (by-fate (a .resource) (a .level) (a .line) (a .word) s (not-false _ (c .before .before .before .before .before .before .before .before .before .if1 .left)) (sym (c .before .before .before .before .before .before .before .before .passes .ensures) ∙ not-false _ (c .before .before .before .before .before .before .before .if2 .left)) (ap₂ (λ (x y : Bool). x || y) (sym (c .before .before .before .before .before .before .full .ensures)) (sym (c .before .before .before .before .before .blocked .ensures)) ∙ c .before .before .before .before .if3 .taken) (c .before .before .before .if4 .left))
 
 take-requires : tie.Need-take-requires
@@ -102,20 +102,20 @@ pub trigger-line-spec : {M : Type 1} → statement M
 trigger-line-spec =
     tie.close
     (tie.spec
-    refuse-requires
+    replied-requires
     returns
     passes-requires
-    refuse-requires-2
+    replied-requires-2
     returns-2
     full-requires
     blocked-requires
     waited-requires
     controlled-requires
-    refuse-requires-3
+    replied-requires-3
     returns-3
     overran-requires
     controlled-requires-2
-    refuse-requires-4
+    replied-requires-4
     returns-4
     take-requires
     done-requires

@@ -12,14 +12,14 @@ use Rattle.chip.proofs.chip.Chip.write_at.Tie as tie
 enum-told : tie.Need-enum-told
 enum-told c = search needs
 
-refuse-requires : tie.Need-refuse-requires
-refuse-requires c κs = search needs
+replied-requires : tie.Need-replied-requires
+replied-requires c κs = search needs
 
 enum-told-2 : tie.Need-enum-told-2
 enum-told-2 c = search needs
 
-refuse-requires-2 : tie.Need-refuse-requires-2
-refuse-requires-2 c κs = search needs
+replied-requires-2 : tie.Need-replied-requires-2
+replied-requires-2 c κs = search needs
 
 enum-told-3 : tie.Need-enum-told-3
 enum-told-3 c = search needs
@@ -45,8 +45,8 @@ done-requires-2 c κs = search needs
 enum-told-5 : tie.Need-enum-told-5
 enum-told-5 c = search needs
 
-refuse-requires-3 : tie.Need-refuse-requires-3
-refuse-requires-3 c κs = search needs
+replied-requires-3 : tie.Need-replied-requires-3
+replied-requires-3 c κs = search needs
 
 enum-told-6 : tie.Need-enum-told-6
 enum-told-6 c = search needs
@@ -63,8 +63,8 @@ done-requires-3 c κs = search needs
 enum-told-7 : tie.Need-enum-told-7
 enum-told-7 c = search needs
 
-unwaited-requires : tie.Need-unwaited-requires
-unwaited-requires c κs = search needs
+waits-cleared-requires : tie.Need-waits-cleared-requires
+waits-cleared-requires c κs = search needs
 
 controlled-requires-3 : tie.Need-controlled-requires-3
 controlled-requires-3 c κs = search needs
@@ -75,8 +75,8 @@ done-requires-4 c κs = search needs
 enum-told-8 : tie.Need-enum-told-8
 enum-told-8 c = search needs
 
-unlost-requires : tie.Need-unlost-requires
-unlost-requires c κs = search needs
+overruns-cleared-requires : tie.Need-overruns-cleared-requires
+overruns-cleared-requires c κs = search needs
 
 controlled-requires-4 : tie.Need-controlled-requires-4
 controlled-requires-4 c κs = search needs
@@ -176,14 +176,14 @@ unfolding writeAt
 returns c =
     let a = c .before .before .before .args in
     let s = a .self in
-    c .refuse .ensures ∙ ap (λ (p : Place). writeAt p (a .word) (a .lines) s) (sym (c .before .enum-told .given .1))
+    c .replied .ensures ∙ ap (λ (p : Place). writeAt p (a .word) (a .lines) s) (sym (c .before .enum-told .given .1))
 
 returns-2 : tie.Need-returns-2
 unfolding writeAt
 returns-2 c =
     let a = c .before .before .before .args in
     let s = a .self in
-    c .refuse2 .ensures ∙ ap (λ (p : Place). writeAt p (a .word) (a .lines) s) (sym (c .before .enum-told2 .given .1))
+    c .replied2 .ensures ∙ ap (λ (p : Place). writeAt p (a .word) (a .lines) s) (sym (c .before .enum-told2 .given .1))
 
 returns-3 : tie.Need-returns-3
 unfolding writeAt
@@ -204,7 +204,7 @@ unfolding writeAt
 returns-5 c =
     let a = c .before .before .before .args in
     let s = a .self in
-    c .refuse3 .ensures ∙ ap (λ (p : Place). writeAt p (a .word) (a .lines) s) (sym (c .before .enum-told5 .given .1))
+    c .replied3 .ensures ∙ ap (λ (p : Place). writeAt p (a .word) (a .lines) s) (sym (c .before .enum-told5 .given .1))
 
 returns-6 : tie.Need-returns-6
 unfolding writeAt
@@ -218,14 +218,14 @@ unfolding writeAt
 returns-7 c =
     let a = c .before .before .before .before .before .args in
     let s = a .self in
-    c .done4 .ensures ∙ ap (done 0) (c .before .controlled3 .ensures ∙ ap (λ k. withControl k s) (c .before .before .unwaited .ensures)) ∙ ap (λ (p : Place). writeAt p (a .word) (a .lines) s) (sym (c .before .before .before .enum-told7 .given .1))
+    c .done4 .ensures ∙ ap (done 0) (c .before .controlled3 .ensures ∙ ap (λ k. withControl k s) (c .before .before .waits-cleared .ensures)) ∙ ap (λ (p : Place). writeAt p (a .word) (a .lines) s) (sym (c .before .before .before .enum-told7 .given .1))
 
 returns-8 : tie.Need-returns-8
 unfolding writeAt
 returns-8 c =
     let a = c .before .before .before .before .before .args in
     let s = a .self in
-    c .done5 .ensures ∙ ap (done 0) (c .before .controlled4 .ensures ∙ ap (λ k. withControl k s) (c .before .before .unlost .ensures)) ∙ ap (λ (p : Place). writeAt p (a .word) (a .lines) s) (sym (c .before .before .before .enum-told8 .given .1))
+    c .done5 .ensures ∙ ap (done 0) (c .before .controlled4 .ensures ∙ ap (λ k. withControl k s) (c .before .before .overruns-cleared .ensures)) ∙ ap (λ (p : Place). writeAt p (a .word) (a .lines) s) (sym (c .before .before .before .enum-told8 .given .1))
 
 returns-9 : tie.Need-returns-9
 unfolding writeAt
@@ -287,9 +287,9 @@ write-at-spec =
     tie.close
     (tie.spec
     enum-told
-    refuse-requires
+    replied-requires
     enum-told-2
-    refuse-requires-2
+    replied-requires-2
     enum-told-3
     soft-reset-requires
     done-requires
@@ -298,17 +298,17 @@ write-at-spec =
     controlled-requires
     done-requires-2
     enum-told-5
-    refuse-requires-3
+    replied-requires-3
     enum-told-6
     filtering-requires
     controlled-requires-2
     done-requires-3
     enum-told-7
-    unwaited-requires
+    waits-cleared-requires
     controlled-requires-3
     done-requires-4
     enum-told-8
-    unlost-requires
+    overruns-cleared-requires
     controlled-requires-4
     done-requires-5
     enum-told-9

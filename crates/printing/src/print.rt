@@ -1,8 +1,7 @@
-// Lines for a person to read: document 01's reply numbers, and equal numbers as a run, `256x3`.
-use chip::reply::Reply;
+// Text and numbers on standard output, and equal numbers as a run, `256x3`.
 use libc::STDOUT_FILENO;
 ghost use mathlib.Core.Path.{_≡_};
-ghost use Rattle.chip.specs.Reply.{replyNumber};
+ghost use Rattle.printing.specs.Run.{emptyRun, grownBy};
 
 pub fn text(bytes: &[u8]) {
     io::write_all(STDOUT_FILENO, bytes);
@@ -12,46 +11,17 @@ pub fn number(n: u64) {
     io::print_decimal(STDOUT_FILENO, n);
 }
 
-// What the lines below it try.
-pub fn heading(name: &[u8]) {
-    text(b"\n");
-    text(name);
-    text(b"\n");
-}
-
 // A name and a number after it.
 pub fn field(name: &[u8], n: u64) {
     text(name);
     number(n);
 }
 
-// Document 01's number of a reply.
-pub fn reply_number(reply: Reply) -> u64
-    ensures { λ r. ⌜ r ≡ replyNumber reply ⌝ }
-{
-    match reply {
-        Reply::Done => 0,
-        Reply::TooHigh => 1,
-        Reply::Nothing => 2,
-        Reply::Forbidden => 3,
-        Reply::Lines => 4,
-        Reply::NoWord => 5,
-        Reply::Off => 6,
-        Reply::Filtered => 7,
-        Reply::Lost => 8,
-        Reply::Wait => 10,
-        Reply::Busy => 11,
-        Reply::Outside => 15,
-    }
-}
-
-// Whether an operation left the record as it was.
-pub fn sameness(same: bool) {
-    if same {
-        text(b" same");
-    } else {
-        text(b" changed");
-    }
+// What the lines below it try.
+pub fn heading(name: &[u8]) {
+    text(b"\n");
+    text(name);
+    text(b"\n");
 }
 
 // Equal numbers that are not printed yet.
@@ -60,12 +30,16 @@ pub struct Run {
     pub count: u64,
 }
 
-pub fn no_run() -> Run {
+pub fn no_run() -> Run
+    ensures { λ r. ⌜ r ≡ emptyRun ⌝ }
+{
     Run { value: 0, count: 0 }
 }
 
 // One number more: the run grows, or is printed and the next begins.
-pub fn add(run: Run, value: u64) -> Run {
+pub fn add(run: Run, value: u64) -> Run
+    ensures { λ r. ⌜ r ≡ grownBy value run ⌝ }
+{
     if run.count == 0 {
         return Run { value, count: 1 };
     }
@@ -89,10 +63,6 @@ pub fn end(run: Run) {
     }
 }
 
-fn wide(x: u16) -> u64 {
-    x as u64
-}
-
 pub fn words(ws: &[u16]) {
     let mut run = no_run();
     let mut i = 0;
@@ -101,4 +71,10 @@ pub fn words(ws: &[u16]) {
         i += 1;
     }
     end(run);
+}
+
+fn wide(x: u16) -> u64
+    ensures { λ r. ⌜ r ≡ x ⌝ }
+{
+    x as u64
 }

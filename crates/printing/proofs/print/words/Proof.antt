@@ -1,9 +1,9 @@
--- `chip_test::show::words` is safe and ends: it counts to the slice's length. Assumes nothing.
+-- `printing::print::words` is safe and ends: it counts to the slice's length. Assumes nothing.
 use borrow.Author.Needs.{needs}
 use Prim.Native.Nat.{_≤_, _-_}
 use lib.ListN.{length}
-use Rattle.chip_test.proofs.show.words.Statement.{statement}
-use Rattle.chip_test.proofs.show.words.Tie as tie
+use Rattle.printing.proofs.print.words.Statement.{statement}
+use Rattle.printing.proofs.print.words.Tie as tie
 
 abbrev Inv-loop : tie.InvT-loop
 Inv-loop ws run₀ i₀ run i = i ≤ length ws
