@@ -6,10 +6,12 @@ use native.Mathlib.Omega.{arith}
 use mathlib.Core.Path.{_≡_, refl, sym, ap, _∙_}
 use mathlib.Core.Bool.{Bool, true, false, cond, not, _&&_, _||_, false≢true}
 use mathlib.Core.List.{List, [], _∷_}
-use lib.Dec.{leb, eqb}
-use borrow.Author.Tests.{eqb-true, eqb-false, lt-ltb, le-ltb, le-leb, lt-leb, leb-true, leb-false}
+use lib.Dec.{leb, ltb, eqb}
+use lib.ListN.{getD}
+use borrow.Author.Tests.{eqb-true, eqb-false, lt-ltb, le-ltb, le-leb, lt-leb, leb-true, leb-false, ltb-true, ltb-false}
 use Rattle.chip.specs.Place.{placeOf}
 use Rattle.chip.specs.Rows.{between, counterAt, triggering}
+use Rattle.chip.specs.declared.place.Place.{Place}
 use Rattle.chip.specs.declared.place.Place.the-variants.{Beyond, Counter, Trace, Resource}
 
 -- what holds of each number below n by computation
@@ -48,6 +50,17 @@ or-rest false x e q = e
 pub place-beyond : (a : ℕ) → 127 < a → placeOf a ≡ Beyond
 unfolding placeOf
 place-beyond a h = simp (lt-ltb 127 a h)
+
+-- a test of places is a test of addresses, if it is for each up to 127, and both fail above
+pub place-test : (f : Place → Bool) (g : ℕ → Bool) → upTo 128 (λ a. same (f (placeOf a) ∷ []) (g a ∷ [])) ≡ true → f Beyond ≡ false → ((a : ℕ) → 127 < a → g a ≡ false) → (a : ℕ) → f (placeOf a) ≡ g a
+place-test f g each none above a = go (ltb 127 a) refl
+  where
+    go : (h : Bool) → ltb 127 a ≡ h → f (placeOf a) ≡ g a
+    go true p = ap f (place-beyond a (ltb-true 127 a p)) ∙ none ∙ sym (above a (ltb-true 127 a p))
+    go false p =
+        let one : (f (placeOf a) ∷ []) ≡ (g a ∷ []) =
+        same-eq _ _ (upTo-at 128 (λ b. same (f (placeOf b) ∷ []) (g b ∷ [])) each a (omega (arith, ltb-false 127 a p))) in
+        ap (λ (l : List Bool). getD l 0 false) one
 
 -- the test of an address from one up to another
 pub between-in : (first last a : ℕ) → between first last a ≡ true → (first ≤ a) × (a ≤ last)

@@ -20,7 +20,7 @@ use Rattle.chip.specs.declared.place.Place.{Place}
 use Rattle.chip.specs.declared.place.Place.the-variants.{Beyond, Nowhere, Reset, Csr, Timestamp, Filter, Waits, Overruns, Mux, Clear, Enable, Disable, Source, Counter, Trace, Resource}
 use Rattle.chip.specs.declared.reply.Reply.{Reply}
 use Rattle.chip.specs.declared.reply.Reply.the-variants.{Done, TooHigh, Nothing, Forbidden, Lines, NoWord, Off, Filtered, Lost, Wait, Busy, Outside}
-use Rattle.chip.proofs.AddressLaws.{place-beyond, same, same-eq, upTo-at}
+use Rattle.chip.proofs.AddressLaws.{place-test}
 use Rattle.chip.proofs.ChipLaws.{by-bounds}
 
 -- what a reply's row says of the value and of the next record; `r` is for a Resource trigger
@@ -117,15 +117,8 @@ kept-read r (Resource level) c = (refl, refl)
 -- a Resource trigger's addresses
 resource-at : (a : ℕ) → resourceAt (placeOf a) ≡ between 112 127 a
 unfolding placeOf registerOf
-resource-at a = go (ltb 127 a) refl
-  where
-    go : (h : Bool) → ltb 127 a ≡ h → resourceAt (placeOf a) ≡ between 112 127 a
-    go true p =
-        ap resourceAt (place-beyond a (ltb-true 127 a p)) ∙ sym (ap (λ (b : Bool). b && leb 112 a) (lt-leb a 127 (ltb-true 127 a p)))
-    go false p =
-        let one : (resourceAt (placeOf a) ∷ []) ≡ (between 112 127 a ∷ []) =
-        same-eq _ _ (upTo-at 128 (λ b. same (resourceAt (placeOf b) ∷ []) (between 112 127 b ∷ [])) refl a (omega (arith, ltb-false 127 a p))) in
-        ap (λ (l : List Bool). getD l 0 false) one
+resource-at a =
+    place-test resourceAt (between 112 127) refl refl (λ b h. ap (λ (t : Bool). t && leb 112 b) (lt-leb b 127 h)) a
 
 -- every operation
 kept : (op : Operation) (c : Chip) → KeptBy (resourceTrigger op) c (step op c)

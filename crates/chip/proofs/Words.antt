@@ -80,7 +80,7 @@ module _ (line : ℕ) (small : line < 8) where
   header-small false true = omega arith
   header-small false false = omega arith
 
-  header-kind : (r l : Bool) → resource (headerOf line r l) ≡ r
+  pub header-kind : (r l : Bool) → resource (headerOf line r l) ≡ r
   header-kind true true = eq-eqb (headerOf line true true / 8 % 2) 1 (omega arith)
   header-kind true false = eq-eqb (headerOf line true false / 8 % 2) 1 (omega arith)
   header-kind false true = ne-eqb (headerOf line false true / 8 % 2) 1 (λ e. omega arith)

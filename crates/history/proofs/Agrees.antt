@@ -1,5 +1,5 @@
--- The relation between a ledger and a chip's record: every part of the record is a function of the ledger, but for the queue and the
--- shadows, which hold what the ledger says. Assumes nothing.
+-- The relation between a ledger and a chip's record: every part of the record is a function of the ledger, but for the queue, which holds
+-- what the ledger says is held, and the shadows, which matter only to that. Assumes nothing.
 use Prim.Native.Nat.{ℕ, zero, suc, _+_, _-_, _%_, _^_, _≤_, _<_}
 use native.Mathlib.Nat.{mod-lt, zero-lt-suc, lt-irrefl, suc-ne-zero}
 use native.Mathlib.Omega.{arith}
@@ -19,7 +19,7 @@ use Rattle.chip.specs.declared.chip.Answer.{Answer}
 use Rattle.chip.specs.declared.chip.Chip.{Chip}
 use Rattle.chip.specs.declared.control.Control.{Control}
 use Rattle.chip.proofs.ChipLaws.{guard-in}
-use Rattle.history.specs.Ledger.{Ledger, Said}
+use Rattle.history.specs.Ledger.{Ledger, Told}
 use Rattle.history.proofs.CountLaws.{wrapped}
 use Rattle.history.proofs.HeldLaws.{Sixteen}
 use Rattle.history.proofs.HoldsLaws.{Holds, holds-inside}
@@ -65,11 +65,11 @@ pub record Agrees (l : Ledger) (c : Chip) : Type 0 where
   pub is : c ≡ chipFor l queue shadows
   pub good : Good l queue shadows
 
--- an answer that leaves a record for this ledger and gives this reply
-pub record Kept (l : Ledger) (s : Said) (a : Answer) : Type 0 where
-  pub agrees : Agrees l (a .chip)
-  pub number : replyNumber (a .reply) ≡ s .number
-  pub value : a .value ≡ s .value
+-- an answer that gives the reply that is told and leaves a record for the ledger after it
+pub record Kept (t : Told) (a : Answer) : Type 0 where
+  pub agrees : Agrees (t .ledger) (a .chip)
+  pub number : replyNumber (a .reply) ≡ t .number
+  pub value : a .value ≡ t .value
 
 -- such a record is inside its bounds, so no operation replies 15
 pub for-inside : (l : Ledger) (q : Queue) (sh : List ℕ) → Good l q sh → inside (chipFor l q sh) ≡ true
@@ -78,5 +78,5 @@ for-inside l q sh g =
     (ap₂ (λ (a b : Bool). a && b) (lt-ltb (l .ticks % 10) 10 (mod-lt (l .ticks) (zero-lt-suc 9)))
     (lt-ltb (l .clock % 2 ^ 56) (2 ^ 56) (mod-lt (l .clock) (pow-pos 56))))
 
-pub kept-guarded : (l : Ledger) (q : Queue) (sh : List ℕ) (l′ : Ledger) (s : Said) (a : Answer) → Good l q sh → Kept l′ s a → Kept l′ s (guarded (chipFor l q sh) a)
-kept-guarded l q sh l′ s a g k = subst (Kept l′ s) (guard-in (chipFor l q sh) a (for-inside l q sh g)) k
+pub kept-guarded : (l : Ledger) (q : Queue) (sh : List ℕ) (t : Told) (a : Answer) → Good l q sh → Kept t a → Kept t (guarded (chipFor l q sh) a)
+kept-guarded l q sh t a g k = subst (Kept t) (guard-in (chipFor l q sh) a (for-inside l q sh g)) k

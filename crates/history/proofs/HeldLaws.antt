@@ -1,5 +1,5 @@
--- Laws of the samples taken and the words sent: which are held, and how many words of the first of those are sent. They are over the
--- samples' lengths and use only that each is above 0. Assumes nothing.
+-- Laws of the samples taken and the words sent: which are held, and how many words of the first of those are sent, by induction on the
+-- samples; a sample with sixteen counters has as many words as its length says. Assumes nothing.
 use Prim.Native.Nat.{ℕ, zero, suc, _+_, _-_, _≤_, _<_}
 use native.Mathlib.Nat.{add-sub-of-le, not-suc-le-zero, lt-irrefl, lt-of-lt-of-le, add-assoc}
 use native.Mathlib.Omega.{arith}
@@ -10,14 +10,25 @@ use lib.Dec.{leb}
 use lib.ListN.{length, take, drop, getD, length-append}
 use lib.Seq.{drop-append-add}
 use borrow.Author.Tests.{le-leb, lt-leb, leb-true, leb-false}
-use Rattle.samples.specs.Layout.{firstChip, resource, sampleWords}
+use Rattle.samples.specs.Layout.{firstChip, resource, sampleLength, sampleWords}
 use Rattle.samples.specs.declared.sample.Sample.{Sample}
 use Rattle.samples.proofs.SampleLaws.{sample-length}
 use Rattle.history.specs.Stream.{heldOf, lengthOf, totalOf, wordsOfAll}
 
--- every sample has words
+-- the layout's length
+pub layout-length : (s : Sample) → sampleLength firstChip (resource (s .header)) ≡ lengthOf s
+layout-length s = go (resource (s .header))
+  where
+    go : (r : Bool) → sampleLength firstChip r ≡ cond r 80 16
+    go true = refl
+    go false = refl
+
+-- so every sample has words, and this many
 pub some-words : (s : Sample) → 0 < lengthOf s
-some-words s = omega arith
+some-words s = subst (λ (n : ℕ). 0 < n) (layout-length s) (omega arith)
+
+pub words-length : (s : Sample) → length (s .counters) ≡ 16 → length (sampleWords firstChip s) ≡ lengthOf s
+words-length s e = sample-length firstChip s e ∙ layout-length s
 
 -- each sample has sixteen counters
 abbrev pub Sixteen : List Sample → Type 0
@@ -33,7 +44,7 @@ pub words-total : (ss : List Sample) → Sixteen ss → length (wordsOfAll ss) �
 unfolding wordsOfAll totalOf
 words-total [] h = refl
 words-total (s ∷ ss) h =
-    length-append (sampleWords firstChip s) (wordsOfAll ss) ∙ ap₂ (λ (a b : ℕ). a + b) (sample-length firstChip s (h .0)) (words-total ss (h .1))
+    length-append (sampleWords firstChip s) (wordsOfAll ss) ∙ ap₂ (λ (a b : ℕ). a + b) (words-length s (h .0)) (words-total ss (h .1))
 
 pub words-more : (ss : List Sample) (s : Sample) → wordsOfAll (ss ++ (s ∷ [])) ≡ wordsOfAll ss ++ sampleWords firstChip s
 unfolding wordsOfAll
@@ -50,20 +61,20 @@ unfoldable pub offsetOf : List Sample → ℕ → ℕ
 offsetOf [] n = n
 offsetOf (s ∷ ss) n = cond (leb (lengthOf s) n) (offsetOf ss (n - lengthOf s)) n
 
--- the first sample is wholly sent, or it is the one being sent
+-- the first sample is the one being sent, or it is wholly sent
 module _ (s : Sample) (ss : List Sample) (n : ℕ) where
-  pub held-past : lengthOf s ≤ n → (heldOf (s ∷ ss) n ≡ heldOf ss (n - lengthOf s)) × (offsetOf (s ∷ ss) n ≡ offsetOf ss (n - lengthOf s))
-  unfolding heldOf offsetOf
-  held-past h = (
-    ap (λ (b : Bool). cond b (heldOf ss (n - lengthOf s)) (s ∷ ss)) (le-leb (lengthOf s) n h),
-    ap (λ (b : Bool). cond b (offsetOf ss (n - lengthOf s)) n) (le-leb (lengthOf s) n h),
-  )
-
   pub held-here : n < lengthOf s → (heldOf (s ∷ ss) n ≡ s ∷ ss) × (offsetOf (s ∷ ss) n ≡ n)
   unfolding heldOf offsetOf
   held-here h = (
     ap (λ (b : Bool). cond b (heldOf ss (n - lengthOf s)) (s ∷ ss)) (lt-leb (lengthOf s) n h),
     ap (λ (b : Bool). cond b (offsetOf ss (n - lengthOf s)) n) (lt-leb (lengthOf s) n h),
+  )
+
+  pub held-past : lengthOf s ≤ n → (heldOf (s ∷ ss) n ≡ heldOf ss (n - lengthOf s)) × (offsetOf (s ∷ ss) n ≡ offsetOf ss (n - lengthOf s))
+  unfolding heldOf offsetOf
+  held-past h = (
+    ap (λ (b : Bool). cond b (heldOf ss (n - lengthOf s)) (s ∷ ss)) (le-leb (lengthOf s) n h),
+    ap (λ (b : Bool). cond b (offsetOf ss (n - lengthOf s)) n) (le-leb (lengthOf s) n h),
   )
 
 pub held-none-sent : (ss : List Sample) → (heldOf ss 0 ≡ ss) × (offsetOf ss 0 ≡ 0)
@@ -79,7 +90,7 @@ drop-held (s ∷ ss) n h = go (leb (lengthOf s) n) refl (drop-held ss (n - lengt
   where
     go : (b : Bool) → leb (lengthOf s) n ≡ b → drop (n - lengthOf s) (wordsOfAll ss) ≡ drop (offsetOf ss (n - lengthOf s)) (wordsOfAll (heldOf ss (n - lengthOf s))) → drop n (wordsOfAll (s ∷ ss)) ≡ drop (cond b (offsetOf ss (n - lengthOf s)) n) (wordsOfAll (cond b (heldOf ss (n - lengthOf s)) (s ∷ ss)))
     go true e ih =
-        let long : length (sampleWords firstChip s) ≡ lengthOf s = sample-length firstChip s (h .0) in
+        let long : length (sampleWords firstChip s) ≡ lengthOf s = words-length s (h .0) in
         let split : n ≡ length (sampleWords firstChip s) + (n - lengthOf s) = sym (add-sub-of-le (leb-true (lengthOf s) n e)) ∙ ap (λ (m : ℕ). m + (n - lengthOf s)) (sym long) in
         ap (λ (m : ℕ). drop m (sampleWords firstChip s ++ wordsOfAll ss)) split ∙ drop-append-add (sampleWords firstChip s) (wordsOfAll ss) (n - lengthOf s) ∙ ih
     go false e ih = refl

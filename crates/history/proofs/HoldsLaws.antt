@@ -14,12 +14,11 @@ use lib.ListN.{List·getD-append}
 use borrow.Author.Tests.{le-leb, lt-ltb, le-ltb, eq-eqb, ltb-true, ltb-false, eqb-true, eqb-false}
 use Rattle.samples.specs.Layout.{firstChip, resource, sampleLength, sampleWords}
 use Rattle.samples.specs.declared.sample.Sample.{Sample}
-use Rattle.samples.proofs.SampleLaws.{sample-length}
 use Rattle.queue.specs.Queue.{advanced, anyResource, busy, emptyQueue, firstCount, firstHeld, full, heldSample, insideQueue, nextWord, pushed, shifted, zeroHeld}
 use Rattle.queue.specs.declared.queue.Held.{Held}
 use Rattle.queue.specs.declared.queue.Queue.{Queue}
 use Rattle.history.specs.Stream.{anyHeld, heldOf, isFull, lengthOf, totalOf, wordsOfAll}
-use Rattle.history.proofs.HeldLaws.{Next, Sixteen, drop-held, held-none, held-push, next-word, offset-all, offsetOf, sixteen-held, total-more}
+use Rattle.history.proofs.HeldLaws.{Next, Sixteen, drop-held, held-none, held-push, layout-length, next-word, offset-all, offsetOf, sixteen-held, total-more, words-length}
 
 -- the queue holds what the list says
 pub record Holds (taken : List Sample) (n : ℕ) (sh : List ℕ) (q : Queue) : Type 0 where
@@ -106,7 +105,7 @@ module _ (taken : List Sample) (n : ℕ) (sh : List ℕ) (q : Queue) (holds : Ho
   first-is x = first-place (q .places) (q .held) sh (x .first) (x .rest) (holds .same ∙ x .is)
 
   first-length : (x : Next taken n) → firstCount q ≡ lengthOf (x .first)
-  first-length x = ap lengthOf (first-is x)
+  first-length x = layout-length (heldSample sh (firstHeld q)) ∙ ap lengthOf (first-is x)
 
   -- so the queue's counts are inside their bounds
   pub holds-inside : insideQueue q ≡ true
@@ -137,7 +136,7 @@ module _ (taken : List Sample) (n : ℕ) (sh : List ℕ) (q : Queue) (holds : Ho
         let x : Next taken n = unsent in
         let o : ℕ = offsetOf taken n in
         let words : List ℕ = sampleWords firstChip (x .first) in
-        let long : length words ≡ lengthOf (x .first) = sample-length firstChip (x .first) (subst Sixteen (x .is) (sixteen-held taken n sixteen) .0) in
+        let long : length words ≡ lengthOf (x .first) = words-length (x .first) (subst Sixteen (x .is) (sixteen-held taken n sixteen) .0) in
         ap₂ (λ (s : Sample) (k : ℕ). getD (sampleWords firstChip s) k 0) (first-is x) (holds .place)
         ∙ sym (List·getD-append words (wordsOfAll (x .rest)) 0 o (subst (λ (k : ℕ). o < k) (sym long) (x .unsent)))
         ∙ ap (λ (l : List Sample). getD (wordsOfAll l) o 0) (sym (x .is))

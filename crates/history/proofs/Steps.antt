@@ -30,7 +30,7 @@ use Rattle.chip.specs.declared.chip.Chip.{Chip}
 use Rattle.chip.specs.declared.place.Place.{Place}
 use Rattle.chip.specs.declared.place.Place.the-variants.{Beyond, Nowhere, Reset, Csr, Timestamp, Filter, Waits, Overruns, Mux, Clear, Enable, Disable, Source, Counter, Trace, Resource}
 use Rattle.chip.specs.declared.reply.Reply.the-variants.{Busy, NoWord, Wait}
-use Rattle.history.specs.Ledger.{Ledger, Said, after, dueTo, happened, held, left, readIn, readSays, replyIn, resetAt, says, sentMore, slowIn, waitedOne, withErrors, withEvents, withStream, withTicks, writeSays, written}
+use Rattle.history.specs.Ledger.{Ledger, Told, dueTo, happened, held, left, readIn, resetAt, sentMore, slowIn, tells, toldOf, waitedOne, withErrors, withEvents, withStream, withTicks, written}
 use Rattle.history.specs.Stream.{anyHeld, isFull, totalOf, wordsOfAll}
 use Rattle.history.proofs.Agrees.{Agrees, Good, Kept, chipFor, controlOf, kept-guarded, switchesOf}
 use Rattle.history.proofs.CountLaws.{phase-same, slow-same, wrapped, wrapped-at, wrapped-bump, wrapped-clear, wrapped-events}
@@ -70,11 +70,11 @@ many taken sixteen sh (suc room) n p h = go (eqb (p .held) 0) refl (λ k. many t
 
 module _ (l : Ledger) (q : Queue) (sh : List ℕ) (g : Good l q sh) where
   -- the same record
-  same : (n v : ℕ) (a : Answer) → a .chip ≡ chipFor l q sh → replyNumber (a .reply) ≡ n → a .value ≡ v → Kept l (says n v) a
+  same : (n v : ℕ) (a : Answer) → a .chip ≡ chipFor l q sh → replyNumber (a .reply) ≡ n → a .value ≡ v → Kept (tells n v l) a
   same n v a e p r = record { agrees = record { queue = q; shadows = sh; is = e; good = g }; number = p; value = r }
 
   -- another part of the ledger that neither the stream nor the events are in
-  other : (l′ : Ledger) (c : Chip) → c ≡ chipFor l′ q sh → l′ .taken ≡ l .taken → l′ .sent ≡ l .sent → l′ .events ≡ l .events → Kept l′ (says 0 0) (done 0 c)
+  other : (l′ : Ledger) (c : Chip) → c ≡ chipFor l′ q sh → l′ .taken ≡ l .taken → l′ .sent ≡ l .sent → l′ .events ≡ l .events → Kept (tells 0 0 l′) (done 0 c)
   other l′ c e t s v =
       record {
         agrees =
@@ -94,7 +94,7 @@ module _ (l : Ledger) (q : Queue) (sh : List ℕ) (g : Good l q sh) where
       }
 
   -- other events
-  other-events : (es : List ℕ) (b : Bank) → length es ≡ 16 → b ≡ record { values = map wrapped es; shadows = sh } → Kept (withEvents es l) (says 0 0) (done 0 (withBank b (chipFor l q sh)))
+  other-events : (es : List ℕ) (b : Bank) → length es ≡ 16 → b ≡ record { values = map wrapped es; shadows = sh } → Kept (tells 0 0 (withEvents es l)) (done 0 (withBank b (chipFor l q sh)))
   other-events es b n e =
       record {
         agrees = record { queue = q; shadows = sh; is = ap (λ (x : Bank). withBank x (chipFor l q sh)) e; good = record { holds = g .holds; sixteen = g .sixteen; events = n } };
@@ -104,18 +104,18 @@ module _ (l : Ledger) (q : Queue) (sh : List ℕ) (g : Good l q sh) where
 
   -- ---- writes
 
-  fired-kept : (i : ℕ) → Kept (cond (dueTo Software (l .select) i) (withEvents (set (l .events) i (getD (l .events) i 0 + 1)) l) l) (says 0 0) (done 0 (withBank (fired i (switchesOf l) (record { values = map wrapped (l .events); shadows = sh })) (chipFor l q sh)))
+  fired-kept : (i : ℕ) → Kept (tells 0 0 (cond (dueTo Software (l .select) i) (withEvents (set (l .events) i (getD (l .events) i 0 + 1)) l) l)) (done 0 (withBank (fired i (switchesOf l) (record { values = map wrapped (l .events); shadows = sh })) (chipFor l q sh)))
   fired-kept i = go (dueTo Software (l .select) i)
     where
-      go : (b : Bool) → Kept (cond b (withEvents (set (l .events) i (getD (l .events) i 0 + 1)) l) l) (says 0 0) (done 0 (withBank (cond b (bumped i (record { values = map wrapped (l .events); shadows = sh })) (record { values = map wrapped (l .events); shadows = sh })) (chipFor l q sh)))
+      go : (b : Bool) → Kept (tells 0 0 (cond b (withEvents (set (l .events) i (getD (l .events) i 0 + 1)) l) l)) (done 0 (withBank (cond b (bumped i (record { values = map wrapped (l .events); shadows = sh })) (record { values = map wrapped (l .events); shadows = sh })) (chipFor l q sh)))
       go true =
           other-events (set (l .events) i (getD (l .events) i 0 + 1)) (bumped i (record { values = map wrapped (l .events); shadows = sh }))
           (length-set (l .events) i (getD (l .events) i 0 + 1) ∙ g .events)
           (λ k. record { values = sym (wrapped-bump (l .events) i) k; shadows = sh })
       go false = other l (chipFor l q sh) refl refl refl refl
 
-  write-kept : (p : Place) (word lines : ℕ) → Kept (written p word lines l) (writeSays p lines l) (writeAt p word lines (chipFor l q sh))
-  unfolding written writeSays writeAt
+  write-kept : (p : Place) (word lines : ℕ) → Kept (written p word lines l) (writeAt p word lines (chipFor l q sh))
+  unfolding written writeAt
   write-kept Beyond word lines = same 1 0 _ refl refl refl
   write-kept Nowhere word lines = same 2 0 _ refl refl refl
   write-kept Reset word lines = record { agrees = record { queue = emptyQueue; shadows = replicate 16 0; is = refl; good = reset-good (l .clock) }; number = refl; value = refl }
@@ -143,8 +143,12 @@ module _ (l : Ledger) (q : Queue) (sh : List ℕ) (g : Good l q sh) where
       (cond w (replied Wait (withControl (waited (controlOf l)) (chipFor l q sh))) (record { chip = chipFor l q sh; value = 2 ^ 63; reply = Busy }))
       (done (getD (map wrapped (l .events)) i 0) (withBank (copied (record { values = map wrapped (l .events); shadows = sh })) (chipFor l q sh)))
 
-  counter-by : (i : ℕ) (b w : Bool) → busy q ≡ b → Kept (cond (b && w) (withErrors (waitedOne (l .errors)) l) l) (cond b (cond w (says 10 0) (says 11 (2 ^ 63))) (says 0 (getD (l .events) i 0 % 2 ^ 32))) (counterAnswer i b w)
-  unfolding counterAnswer
+  counterTold : ℕ → Bool → Bool → Told
+  counterTold i b w =
+      cond b (cond w (tells 10 0 (withErrors (waitedOne (l .errors)) l)) (tells 11 (2 ^ 63) l)) (tells 0 (getD (l .events) i 0 % 2 ^ 32) l)
+
+  counter-by : (i : ℕ) (b w : Bool) → busy q ≡ b → Kept (counterTold i b w) (counterAnswer i b w)
+  unfolding counterAnswer counterTold
   counter-by i true true e = told l q sh g
   counter-by i true false e = same 11 (2 ^ 63) _ refl refl refl
   counter-by i false w e =
@@ -160,16 +164,15 @@ module _ (l : Ledger) (q : Queue) (sh : List ℕ) (g : Good l q sh) where
         value = wrapped-at (l .events) i;
       }
 
-  counter-kept : (i : ℕ) → Kept (cond (anyHeld (held l) && l .settings .readwait) (withErrors (waitedOne (l .errors)) l) l) (cond (anyHeld (held l)) (cond (l .settings .readwait) (says 10 0) (says 11 (2 ^ 63))) (says 0 (getD (l .events) i 0 % 2 ^ 32))) (readCounter i (chipFor l q sh))
+  counter-kept : (i : ℕ) → Kept (counterTold i (anyHeld (held l)) (l .settings .readwait)) (readCounter i (chipFor l q sh))
   unfolding readCounter counterAnswer
   counter-kept i =
       let e : busy q ≡ anyHeld (held l) = holds-busy (l .taken) (l .sent) sh q (g .holds) in
-      subst (Kept (cond (anyHeld (held l) && l .settings .readwait) (withErrors (waitedOne (l .errors)) l) l) (cond (anyHeld (held l)) (cond (l .settings .readwait) (says 10 0) (says 11 (2 ^ 63))) (says 0 (getD (l .events) i 0 % 2 ^ 32))))
-      (λ k. counterAnswer i (sym e k) (l .settings .readwait))
+      subst (Kept (counterTold i (anyHeld (held l)) (l .settings .readwait))) (λ k. counterAnswer i (sym e k) (l .settings .readwait))
       (counter-by i (anyHeld (held l)) (l .settings .readwait) e)
 
-  read-kept : (p : Place) → Kept (readIn p l) (readSays p l) (readAt p (chipFor l q sh))
-  unfolding readIn readSays readAt
+  read-kept : (p : Place) → Kept (readIn p l) (readAt p (chipFor l q sh))
+  unfolding readIn readAt counterTold
   read-kept Beyond = same 1 0 _ refl refl refl
   read-kept Nowhere = same 2 0 _ refl refl refl
   read-kept Reset = same 3 0 _ refl refl refl
@@ -191,12 +194,12 @@ module _ (l : Ledger) (q : Queue) (sh : List ℕ) (g : Good l q sh) where
 
   -- ---- ticks and events
 
-  happened-kept : (f : ℕ → Bool) (k : ℕ) → Kept (happened f k l) (says 0 0) (done 0 (withBank (record { values = each (λ i v. cond (f i) (grown v k) v) 0 (map wrapped (l .events)); shadows = sh }) (chipFor l q sh)))
+  happened-kept : (f : ℕ → Bool) (k : ℕ) → Kept (tells 0 0 (happened f k l)) (done 0 (withBank (record { values = each (λ i v. cond (f i) (grown v k) v) 0 (map wrapped (l .events)); shadows = sh }) (chipFor l q sh)))
   happened-kept f k =
       other-events (each (λ i n. cond (f i) (n + k) n) 0 (l .events)) _ (each-length (λ i n. cond (f i) (n + k) n) 0 (l .events) ∙ g .events)
       (λ j. record { values = sym (wrapped-events f k (l .events)) j; shadows = sh })
 
-  ticks-kept : (k : ℕ) → Kept (withTicks k (happened (dueTo Slow (l .select)) (slowIn (l .ticks) k) l)) (says 0 0) (done 0 (afterTicks k (chipFor l q sh)))
+  ticks-kept : (k : ℕ) → Kept (tells 0 0 (withTicks k (happened (dueTo Slow (l .select)) (slowIn (l .ticks) k) l))) (done 0 (afterTicks k (chipFor l q sh)))
   ticks-kept k =
       let f : ℕ → Bool = dueTo Slow (l .select) in
       let n : ℕ = slowIn (l .ticks) k in
@@ -226,31 +229,27 @@ module _ (l : Ledger) (q : Queue) (sh : List ℕ) (g : Good l q sh) where
   -- ---- sends
 
   -- another queue that holds what is left after more words
-  sent-kept : (m v : ℕ) (q′ : Queue) (a : Answer) → Holds (l .taken) (l .sent + m) sh q′ → a .chip ≡ withQueue q′ (chipFor l q sh) → replyNumber (a .reply) ≡ 0 → a .value ≡ v → Kept (withStream (l .taken) (l .sent + m) l) (says 0 v) a
+  sent-kept : (m v : ℕ) (q′ : Queue) (a : Answer) → Holds (l .taken) (l .sent + m) sh q′ → a .chip ≡ withQueue q′ (chipFor l q sh) → replyNumber (a .reply) ≡ 0 → a .value ≡ v → Kept (tells 0 v (withStream (l .taken) (l .sent + m) l)) a
   sent-kept m v q′ a h e p r =
       record { agrees = record { queue = q′; shadows = sh; is = e; good = record { holds = h; sixteen = g .sixteen; events = g .events } }; number = p; value = r }
 
   -- a single send
-  send-kept : Kept (sentMore 1 l) (cond (eqb (left l) 0) (says 5 0) (says 0 (getD (wordsOfAll (l .taken)) (l .sent) 0))) (sendNow (chipFor l q sh))
+  sendTold : Bool → Told
+  sendTold none = cond none (tells 5 0 l) (tells 0 (getD (wordsOfAll (l .taken)) (l .sent) 0) (sentMore 1 l))
+
+  send-kept : Kept (sendTold (eqb (left l) 0)) (sendNow (chipFor l q sh))
+  unfolding sendTold
   send-kept = go (eqb (q .held) 0) refl
     where
-      go : (b : Bool) → eqb (q .held) 0 ≡ b → Kept (sentMore 1 l) (cond (eqb (left l) 0) (says 5 0) (says 0 (getD (wordsOfAll (l .taken)) (l .sent) 0))) (cond b (replied NoWord (chipFor l q sh)) (done (nextWord sh q) (withQueue (advanced q) (chipFor l q sh))))
+      go : (b : Bool) → eqb (q .held) 0 ≡ b → Kept (sendTold (eqb (left l) 0)) (cond b (replied NoWord (chipFor l q sh)) (done (nextWord sh q) (withQueue (advanced q) (chipFor l q sh))))
       go true e =
           let none : left l ≡ 0 = holds-none (l .taken) (l .sent) sh q (g .holds) (eqb-true (q .held) 0 e) in
-          let now : l .sent ≡ l .sent + min 1 (left l) = omega arith in
-          subst (λ (x : Said). Kept (sentMore 1 l) x (replied NoWord (chipFor l q sh)))
-          (ap (λ (b : Bool). cond b (says 5 0) (says 0 (getD (wordsOfAll (l .taken)) (l .sent) 0))) (sym (eq-eqb (left l) 0 none)))
-          (record {
-            agrees = record { queue = q; shadows = sh; is = refl; good = record { holds = subst (λ (n : ℕ). Holds (l .taken) n sh q) now (g .holds); sixteen = g .sixteen; events = g .events } };
-            number = refl;
-            value = refl;
-          })
+          subst (λ (b : Bool). Kept (sendTold b) (replied NoWord (chipFor l q sh))) (sym (eq-eqb (left l) 0 none)) (same 5 0 _ refl refl refl)
       go false e =
           let f : q .held ≡ 0 → ⊥ = eqb-false (q .held) 0 e in
           let some : l .sent < totalOf (l .taken) = holds-some (l .taken) (l .sent) sh q (g .holds) f in
           let now : l .sent + 1 ≡ l .sent + min 1 (left l) = omega arith in
-          subst (λ (x : Said). Kept (sentMore 1 l) x (done (nextWord sh q) (withQueue (advanced q) (chipFor l q sh))))
-          (ap (λ (b : Bool). cond b (says 5 0) (says 0 (getD (wordsOfAll (l .taken)) (l .sent) 0))) (sym (ne-eqb (left l) 0 (λ z. omega arith))))
+          subst (λ (b : Bool). Kept (sendTold b) (done (nextWord sh q) (withQueue (advanced q) (chipFor l q sh)))) (sym (ne-eqb (left l) 0 (λ z. omega arith)))
           (sent-kept (min 1 (left l)) _ (advanced q) _
           (subst (λ (n : ℕ). Holds (l .taken) n sh (advanced q)) now (holds-advanced (l .taken) (l .sent) sh q (g .holds) (g .sixteen) f))
           refl
@@ -258,7 +257,7 @@ module _ (l : Ledger) (q : Queue) (sh : List ℕ) (g : Good l q sh) where
           (next-is (l .taken) (l .sent) sh q (g .holds) (g .sixteen) f))
 
   -- a buffer send
-  fill-kept : (room : ℕ) → Kept (sentMore room l) (says 0 (min room (left l))) (done (sendMany room sh q .count) (withQueue (sendMany room sh q .queue) (chipFor l q sh)))
+  fill-kept : (room : ℕ) → Kept (tells 0 (min room (left l)) (sentMore room l)) (done (sendMany room sh q .count) (withQueue (sendMany room sh q .queue) (chipFor l q sh)))
   unfolding sendMany
   fill-kept room =
       let x = many (l .taken) (g .sixteen) sh room (l .sent) q (g .holds) in
@@ -267,16 +266,16 @@ module _ (l : Ledger) (q : Queue) (sh : List ℕ) (g : Good l q sh) where
       (ap length (x .0) ∙ length-take-le (min room (left l)) (drop (l .sent) (wordsOfAll (l .taken))) (rw rest (omega arith)))
 
 -- every operation on a record that a ledger leaves
-pub step-kept : (op : Operation) (l : Ledger) (q : Queue) (sh : List ℕ) → Good l q sh → Kept (after op l) (replyIn op l) (step op (chipFor l q sh))
-unfolding after replyIn write read timestampTicks nodeTicks externalEvents send sendInto
+pub step-kept : (op : Operation) (l : Ledger) (q : Queue) (sh : List ℕ) → Good l q sh → Kept (toldOf op l) (step op (chipFor l q sh))
+unfolding toldOf sendTold write read timestampTicks nodeTicks externalEvents send sendInto
 step-kept opReset l q sh g = record { agrees = record { queue = emptyQueue; shadows = replicate 16 0; is = refl; good = reset-good 0 }; number = refl; value = refl }
-step-kept (opWrite address word lines) l q sh g = kept-guarded l q sh _ _ _ g (write-kept l q sh g (placeOf address) word lines)
-step-kept (opRead address) l q sh g = kept-guarded l q sh _ _ _ g (read-kept l q sh g (placeOf address))
-step-kept (opTicks k) l q sh g = kept-guarded l q sh _ _ _ g (ticks-kept l q sh g k)
-step-kept (opNodes k) l q sh g = kept-guarded l q sh _ _ _ g (happened-kept l q sh g (dueTo Node (l .select)) k)
-step-kept (opEvents mask) l q sh g = kept-guarded l q sh _ _ _ g (happened-kept l q sh g (λ i. bit mask i && dueTo External (l .select) i) 1)
-step-kept opSend l q sh g = kept-guarded l q sh _ _ _ g (send-kept l q sh g)
-step-kept (opFill room) l q sh g = kept-guarded l q sh _ _ _ g (fill-kept l q sh g room)
+step-kept (opWrite address word lines) l q sh g = kept-guarded l q sh _ _ g (write-kept l q sh g (placeOf address) word lines)
+step-kept (opRead address) l q sh g = kept-guarded l q sh _ _ g (read-kept l q sh g (placeOf address))
+step-kept (opTicks k) l q sh g = kept-guarded l q sh _ _ g (ticks-kept l q sh g k)
+step-kept (opNodes k) l q sh g = kept-guarded l q sh _ _ g (happened-kept l q sh g (dueTo Node (l .select)) k)
+step-kept (opEvents mask) l q sh g = kept-guarded l q sh _ _ g (happened-kept l q sh g (λ i. bit mask i && dueTo External (l .select) i) 1)
+step-kept opSend l q sh g = kept-guarded l q sh _ _ g (send-kept l q sh g)
+step-kept (opFill room) l q sh g = kept-guarded l q sh _ _ g (fill-kept l q sh g room)
 
-pub agrees-step : (op : Operation) (l : Ledger) (c : Chip) → Agrees l c → Kept (after op l) (replyIn op l) (step op c)
-agrees-step op l c a = subst (λ (x : Chip). Kept (after op l) (replyIn op l) (step op x)) (sym (a .is)) (step-kept op l (a .queue) (a .shadows) (a .good))
+pub agrees-step : (op : Operation) (l : Ledger) (c : Chip) → Agrees l c → Kept (toldOf op l) (step op c)
+agrees-step op l c a = subst (λ (x : Chip). Kept (toldOf op l) (step op x)) (sym (a .is)) (step-kept op l (a .queue) (a .shadows) (a .good))

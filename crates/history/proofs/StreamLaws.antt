@@ -1,15 +1,15 @@
 -- The words that the chip gave, and those it will give, are those of the ledger's samples. Assumes nothing.
-use Prim.Native.Nat.{ℕ, zero, suc, _+_, _-_, _*_, _≤_, _<_, min}
+use Prim.Native.Nat.{ℕ, zero, suc, _+_, _-_, _*_, _%_, _^_, _≤_, _<_, min}
 use native.Mathlib.Nat.{add-zero, zero-add, le-refl, min-zero, suc-ne-zero}
 use native.Mathlib.Numerals.{add-one}
 use native.Mathlib.Omega.{arith}
 use mathlib.Core.Path.{_≡_, refl, sym, ap, ap₂, _∙_, subst}
-use mathlib.Core.Bool.{Bool, true, false, cond, _&&_, false≢true}
+use mathlib.Core.Bool.{Bool, true, false, cond, false≢true}
 use mathlib.Core.List.{List, [], _∷_, _++_, append-nil}
 use lib.Dec.{eqb, leb, ltb}
 use lib.ListN.{length, take, drop, getD, set, replicate, length-drop, length-replicate, drop-of-length-le}
 use lib.Seq.{drop-cons, take-add, take-append-le, take-at, take-suc, length-take-le}
-use borrow.Author.Tests.{eq-eqb, ne-eqb, eqb-true, eqb-false, leb-true}
+use borrow.Author.Tests.{ne-eqb, eqb-true, eqb-false, leb-true}
 use Rattle.samples.specs.Layout.{firstChip, resource, sampleLength, sampleWords}
 use Rattle.samples.specs.declared.sample.Sample.{Sample}
 use Rattle.queue.specs.Queue.{sendBuffer, sendWords}
@@ -23,9 +23,10 @@ use Rattle.chip.specs.declared.chip.Chip.{Chip}
 use Rattle.counters.specs.declared.switches.Kind.the-variants.{Software}
 use Rattle.chip.specs.declared.place.Place.{Place}
 use Rattle.chip.specs.declared.place.Place.the-variants.{Beyond, Nowhere, Reset, Csr, Timestamp, Filter, Waits, Overruns, Mux, Clear, Enable, Disable, Source, Counter, Trace, Resource}
-use Rattle.history.specs.Ledger.{Ledger, after, byFate, dueTo, fateIn, held, left, readIn, replyIn, sampleIn, says, sentMore, triggered, waitedOne, withErrors, withEvents, written}
-use Rattle.history.specs.Run.{comeWithin, streamAfter, wordsBy}
+use Rattle.history.specs.Ledger.{Ledger, Told, byFate, dueTo, fateIn, held, left, readIn, sampleIn, sentMore, tells, toldOf, triggered, waitedOne, withErrors, withEvents, written}
+use Rattle.history.specs.Run.{comeWithin, streamAfter}
 use Rattle.history.specs.Stream.{anyHeld, heldOf, lengthOf, totalOf, wordsOfAll}
+use Rattle.chip.proofs.AddressLaws.{place-test}
 use Rattle.history.proofs.Agrees.{Agrees, Good, Kept, chipFor, for-inside}
 use Rattle.history.proofs.HeldLaws.{Sixteen, held-past, held-here, words-more, words-total}
 use Rattle.history.proofs.HoldsLaws.{Holds}
@@ -51,41 +52,14 @@ isReset (Counter i) = false
 isReset (Trace level) = false
 isReset (Resource level) = false
 
--- none of the registers but the first
-registers : (c1 c2 c3 c4 c5 c6 c7 c8 c9 : Bool) → isReset (cond c1 Csr (cond c2 Timestamp (cond c3 Filter (cond c4 Waits (cond c5 Overruns (cond c6 Mux (cond c7 Clear (cond c8 Enable (cond c9 Disable Nowhere))))))))) ≡ false
-registers true c2 c3 c4 c5 c6 c7 c8 c9 = refl
-registers false true c3 c4 c5 c6 c7 c8 c9 = refl
-registers false false true c4 c5 c6 c7 c8 c9 = refl
-registers false false false true c5 c6 c7 c8 c9 = refl
-registers false false false false true c6 c7 c8 c9 = refl
-registers false false false false false true c7 c8 c9 = refl
-registers false false false false false false true c8 c9 = refl
-registers false false false false false false false true c9 = refl
-registers false false false false false false false false true = refl
-registers false false false false false false false false false = refl
-
--- nor anything else in the map
-places : (b1 b2 b3 b4 b5 b6 b7 : Bool) (x y z w : ℕ) (p : Place) → isReset p ≡ false → isReset (cond b1 Beyond (cond b2 (Resource x) (cond b3 (Trace y) (cond b4 Nowhere (cond b5 (Counter z) (cond b6 Nowhere (cond b7 (Source w) p))))))) ≡ false
-places true b2 b3 b4 b5 b6 b7 x y z w p h = refl
-places false true b3 b4 b5 b6 b7 x y z w p h = refl
-places false false true b4 b5 b6 b7 x y z w p h = refl
-places false false false true b5 b6 b7 x y z w p h = refl
-places false false false false true b6 b7 x y z w p h = refl
-places false false false false false true b7 x y z w p h = refl
-places false false false false false false true x y z w p h = refl
-places false false false false false false false x y z w p h = h
-
-no-reset : (a : ℕ) → eqb a 0 ≡ false → isReset (placeOf a) ≡ false
+reset-at : (a : ℕ) → isReset (placeOf a) ≡ eqb a 0
 unfolding placeOf registerOf
-no-reset a e =
-    places (ltb 127 a) (leb 112 a) (leb 96 a) (leb 48 a) (leb 32 a) (leb 24 a) (leb 16 a) (a - 112) (a - 96) (a - 32) (a - 16) (registerOf a)
-    (ap (λ (b : Bool). isReset (cond b Reset (cond (eqb a 1) Csr (cond (eqb a 2) Timestamp (cond (eqb a 4) Filter (cond (eqb a 5) Waits (cond (eqb a 6) Overruns (cond (eqb a 8) Mux (cond (eqb a 10) Clear (cond (eqb a 11) Enable (cond (eqb a 12) Disable Nowhere))))))))))) e
-    ∙ registers (eqb a 1) (eqb a 2) (eqb a 4) (eqb a 5) (eqb a 6) (eqb a 8) (eqb a 10) (eqb a 11) (eqb a 12))
+reset-at a = place-test isReset (λ b. eqb b 0) refl refl (λ b h. ne-eqb b 0 (λ e. omega arith)) a
 
 -- ---- the words sent so far
 
 -- what a fate leaves of the stream
-fate-stream : (f : Fate) (r : Bool) (line word : ℕ) (l : Ledger) → l .sent ≤ length (wordsOfAll (l .taken)) → take (byFate f r line word l .sent) (wordsOfAll (byFate f r line word l .taken)) ≡ take (l .sent) (wordsOfAll (l .taken))
+fate-stream : (f : Fate) (r : Bool) (line word : ℕ) (l : Ledger) → l .sent ≤ length (wordsOfAll (l .taken)) → take (byFate f r line word l .ledger .sent) (wordsOfAll (byFate f r line word l .ledger .taken)) ≡ take (l .sent) (wordsOfAll (l .taken))
 unfolding byFate
 fate-stream isOff r line word l h = refl
 fate-stream isFiltered r line word l h = refl
@@ -94,15 +68,15 @@ fate-stream isTold r line word l h = refl
 fate-stream isTaken r line word l h =
     ap (take (l .sent)) (words-more (l .taken) (sampleIn r line word l)) ∙ take-append-le (l .sent) (wordsOfAll (l .taken)) (sampleWords firstChip (sampleIn r line word l)) h
 
-trigger-stream : (r : Bool) (level word lines : ℕ) (l : Ledger) → l .sent ≤ length (wordsOfAll (l .taken)) → take (triggered r level word lines l .sent) (wordsOfAll (triggered r level word lines l .taken)) ≡ take (l .sent) (wordsOfAll (l .taken))
+trigger-stream : (r : Bool) (level word lines : ℕ) (l : Ledger) → l .sent ≤ length (wordsOfAll (l .taken)) → take (triggered r level word lines l .ledger .sent) (wordsOfAll (triggered r level word lines l .ledger .taken)) ≡ take (l .sent) (wordsOfAll (l .taken))
 unfolding triggered
 trigger-stream r level word lines l h = go (oneLine lines)
   where
-    go : (b : Bool) → take (cond b (byFate (fateIn r level l) r (lineOf lines) word l) l .sent) (wordsOfAll (cond b (byFate (fateIn r level l) r (lineOf lines) word l) l .taken)) ≡ take (l .sent) (wordsOfAll (l .taken))
+    go : (b : Bool) → take (cond b (byFate (fateIn r level l) r (lineOf lines) word l) (tells 4 0 l) .ledger .sent) (wordsOfAll (cond b (byFate (fateIn r level l) r (lineOf lines) word l) (tells 4 0 l) .ledger .taken)) ≡ take (l .sent) (wordsOfAll (l .taken))
     go true = fate-stream (fateIn r level l) r (lineOf lines) word l h
     go false = refl
 
-write-stream : (p : Place) (word lines : ℕ) (l : Ledger) → isReset p ≡ false → l .sent ≤ length (wordsOfAll (l .taken)) → take (written p word lines l .sent) (wordsOfAll (written p word lines l .taken)) ≡ take (l .sent) (wordsOfAll (l .taken))
+write-stream : (p : Place) (word lines : ℕ) (l : Ledger) → isReset p ≡ false → l .sent ≤ length (wordsOfAll (l .taken)) → take (written p word lines l .ledger .sent) (wordsOfAll (written p word lines l .ledger .taken)) ≡ take (l .sent) (wordsOfAll (l .taken))
 unfolding written
 write-stream Beyond word lines l e h = refl
 write-stream Nowhere word lines l e h = refl
@@ -125,7 +99,7 @@ write-stream (Counter i) word lines l e h = go (dueTo Software (l .select) i)
 write-stream (Trace level) word lines l e h = trigger-stream false level word lines l h
 write-stream (Resource level) word lines l e h = trigger-stream true level word lines l h
 
-read-stream : (p : Place) (l : Ledger) → take (readIn p l .sent) (wordsOfAll (readIn p l .taken)) ≡ take (l .sent) (wordsOfAll (l .taken))
+read-stream : (p : Place) (l : Ledger) → take (readIn p l .ledger .sent) (wordsOfAll (readIn p l .ledger .taken)) ≡ take (l .sent) (wordsOfAll (l .taken))
 unfolding readIn
 read-stream Beyond l = refl
 read-stream Nowhere l = refl
@@ -140,35 +114,37 @@ read-stream Clear l = refl
 read-stream Enable l = refl
 read-stream Disable l = refl
 read-stream (Source i) l = refl
-read-stream (Counter i) l = go (anyHeld (held l) && l .settings .readwait)
+read-stream (Counter i) l = go (anyHeld (held l)) (l .settings .readwait)
   where
-    go : (b : Bool) → take (cond b (withErrors (waitedOne (l .errors)) l) l .sent) (wordsOfAll (cond b (withErrors (waitedOne (l .errors)) l) l .taken)) ≡ take (l .sent) (wordsOfAll (l .taken))
-    go true = refl
-    go false = refl
+    told : Bool → Bool → Told
+    told b w = cond b (cond w (tells 10 0 (withErrors (waitedOne (l .errors)) l)) (tells 11 (2 ^ 63) l)) (tells 0 (getD (l .events) i 0 % 2 ^ 32) l)
+
+    go : (b w : Bool) → take (told b w .ledger .sent) (wordsOfAll (told b w .ledger .taken)) ≡ take (l .sent) (wordsOfAll (l .taken))
+    go true true = refl
+    go true false = refl
+    go false w = refl
 read-stream (Trace level) l = refl
 read-stream (Resource level) l = refl
 
 module _ (l : Ledger) (c : Chip) (a : Agrees l c) where
-  all : List ℕ
-  all = wordsOfAll (l .taken)
-
   sent-within : l .sent ≤ length (wordsOfAll (l .taken))
   sent-within = subst (λ (n : ℕ). l .sent ≤ n) (sym (words-total (l .taken) (a .good .sixteen))) (a .good .holds .enough)
 
   -- a single send adds the next word, if one is left
-  send-words : take (l .sent) (wordsOfAll (l .taken)) ++ wordsBy opSend c ≡ take (l .sent + min 1 (left l)) (wordsOfAll (l .taken))
-  unfolding wordsBy replyIn
+  send-words : take (l .sent) (wordsOfAll (l .taken)) ++ cond (eqb (replyNumber (step opSend c .reply)) 0) (step opSend c .value ∷ []) [] ≡ take (toldOf opSend l .ledger .sent) (wordsOfAll (toldOf opSend l .ledger .taken))
+  unfolding toldOf
   send-words = go (eqb (left l) 0) refl (k .number) (k .value)
     where
-      k : Kept (after opSend l) (replyIn opSend l) (step opSend c)
+      k : Kept (toldOf opSend l) (step opSend c)
       k = agrees-step opSend l c a
 
-      go : (b : Bool) → eqb (left l) 0 ≡ b → replyNumber (step opSend c .reply) ≡ cond b (says 5 0) (says 0 (getD (wordsOfAll (l .taken)) (l .sent) 0)) .number → step opSend c .value ≡ cond b (says 5 0) (says 0 (getD (wordsOfAll (l .taken)) (l .sent) 0)) .value → take (l .sent) (wordsOfAll (l .taken)) ++ cond (eqb (replyNumber (step opSend c .reply)) 0) (step opSend c .value ∷ []) [] ≡ take (l .sent + min 1 (left l)) (wordsOfAll (l .taken))
+      told : Bool → Told
+      told b = cond b (tells 5 0 l) (tells 0 (getD (wordsOfAll (l .taken)) (l .sent) 0) (sentMore 1 l))
+
+      go : (b : Bool) → eqb (left l) 0 ≡ b → replyNumber (step opSend c .reply) ≡ told b .number → step opSend c .value ≡ told b .value → take (l .sent) (wordsOfAll (l .taken)) ++ cond (eqb (replyNumber (step opSend c .reply)) 0) (step opSend c .value ∷ []) [] ≡ take (told b .ledger .sent) (wordsOfAll (told b .ledger .taken))
       go true e n v =
-          let none : l .sent ≡ l .sent + min 1 (left l) = omega (arith, eqb-true (left l) 0 e) in
           ap (λ (x : ℕ). take (l .sent) (wordsOfAll (l .taken)) ++ cond (eqb x 0) (step opSend c .value ∷ []) []) n
           ∙ append-nil (take (l .sent) (wordsOfAll (l .taken)))
-          ∙ ap (λ (m : ℕ). take m (wordsOfAll (l .taken))) none
       go false e n v =
           let f : left l ≡ 0 → ⊥ = eqb-false (left l) 0 e in
           let one : suc (l .sent) ≡ l .sent + min 1 (left l) = omega arith in
@@ -177,13 +153,13 @@ module _ (l : Ledger) (c : Chip) (a : Agrees l c) where
           ∙ sym (take-suc (wordsOfAll (l .taken)) (l .sent) 0 here)
           ∙ ap (λ (m : ℕ). take m (wordsOfAll (l .taken))) one
 
-  fill-words : (room : ℕ) → take (l .sent) (wordsOfAll (l .taken)) ++ wordsBy (opFill room) c ≡ take (l .sent + min room (left l)) (wordsOfAll (l .taken))
-  unfolding wordsBy replyIn sentBuffer sendBuffer
+  fill-words : (room : ℕ) → take (l .sent) (wordsOfAll (l .taken)) ++ take (step (opFill room) c .value) (sentBuffer c (replicate room 0)) ≡ take (l .sent + min room (left l)) (wordsOfAll (l .taken))
+  unfolding toldOf sentBuffer sendBuffer
   fill-words room =
       let q : Queue = a .queue in
       let sh : List ℕ = a .shadows in
       let m : ℕ = min room (left l) in
-      let k : Kept (after (opFill room) l) (replyIn (opFill room) l) (step (opFill room) c) = agrees-step (opFill room) l c a in
+      let k : Kept (toldOf (opFill room) l) (step (opFill room) c) = agrees-step (opFill room) l c a in
       let x = many (l .taken) (a .good .sixteen) sh room (l .sent) q (a .good .holds) in
       let rest : length (drop (l .sent) (wordsOfAll (l .taken))) ≡ left l = length-drop (l .sent) (wordsOfAll (l .taken)) ∙ ap (λ (n : ℕ). n - l .sent) (words-total (l .taken) (a .good .sixteen)) in
       let size : length (sendWords room sh q) ≡ m = ap length (x .0) ∙ length-take-le m (drop (l .sent) (wordsOfAll (l .taken))) (rw rest (omega arith)) in
@@ -198,46 +174,46 @@ module _ (l : Ledger) (c : Chip) (a : Agrees l c) where
           ap (λ (b : Bool). cond b (sendBuffer sh q (replicate n 0)) (replicate n 0)) e
           ∙ ap (λ (w : ℕ). sendWords w sh q ++ drop (length (sendWords w sh q)) (replicate n 0)) (length-replicate n 0)
 
-  pub stream-step : (op : Operation) (ws : List ℕ) → ws ≡ take (l .sent) (wordsOfAll (l .taken)) → streamAfter op c ws ≡ take (after op l .sent) (wordsOfAll (after op l .taken))
-  unfolding streamAfter after wordsOfAll placeOf registerOf written
+  pub stream-step : (op : Operation) (ws : List ℕ) → ws ≡ take (l .sent) (wordsOfAll (l .taken)) → streamAfter op c ws ≡ take (toldOf op l .ledger .sent) (wordsOfAll (toldOf op l .ledger .taken))
+  unfolding streamAfter toldOf wordsOfAll placeOf registerOf written
   stream-step opReset ws e = refl
   stream-step (opWrite address word lines) ws e = go (eqb address 0) refl
     where
-      go : (b : Bool) → eqb address 0 ≡ b → cond b [] ws ≡ take (written (placeOf address) word lines l .sent) (wordsOfAll (written (placeOf address) word lines l .taken))
-      go true t = ap (λ (x : ℕ). take (written (placeOf x) word lines l .sent) (wordsOfAll (written (placeOf x) word lines l .taken))) (sym (eqb-true address 0 t))
-      go false t = e ∙ sym (write-stream (placeOf address) word lines l (no-reset address t) sent-within)
+      go : (b : Bool) → eqb address 0 ≡ b → cond b [] ws ≡ take (written (placeOf address) word lines l .ledger .sent) (wordsOfAll (written (placeOf address) word lines l .ledger .taken))
+      go true t = ap (λ (x : ℕ). take (written (placeOf x) word lines l .ledger .sent) (wordsOfAll (written (placeOf x) word lines l .ledger .taken))) (sym (eqb-true address 0 t))
+      go false t = e ∙ sym (write-stream (placeOf address) word lines l (reset-at address ∙ t) sent-within)
   stream-step (opRead address) ws e = e ∙ sym (read-stream (placeOf address) l)
   stream-step (opTicks k) ws e = e
   stream-step (opNodes k) ws e = e
   stream-step (opEvents mask) ws e = e
-  stream-step opSend ws e = ap (λ (x : List ℕ). x ++ wordsBy opSend c) e ∙ send-words
-  stream-step (opFill room) ws e = ap (λ (x : List ℕ). x ++ wordsBy (opFill room) c) e ∙ fill-words room
+  stream-step opSend ws e = ap (λ (x : List ℕ). x ++ cond (eqb (replyNumber (step opSend c .reply)) 0) (step opSend c .value ∷ []) []) e ∙ send-words
+  stream-step (opFill room) ws e = ap (λ (x : List ℕ). x ++ take (step (opFill room) c .value) (sentBuffer c (replicate room 0))) e ∙ fill-words room
 
 -- ---- the words still to come
 
 -- more tries than words left give just those
 pub come-words : (n : ℕ) (l : Ledger) (c : Chip) → Agrees l c → comeWithin n c ≡ take n (drop (l .sent) (wordsOfAll (l .taken)))
-unfolding comeWithin after replyIn
+unfolding comeWithin toldOf
 come-words zero l c a = refl
-come-words (suc n) l c a = go (eqb (left l) 0) refl (k .number) (k .value) (come-words n (sentMore 1 l) (step opSend c .chip) (k .agrees))
+come-words (suc n) l c a = go (eqb (left l) 0) refl (k .number) (k .value) (come-words n (toldOf opSend l .ledger) (step opSend c .chip) (k .agrees))
   where
-    k : Kept (after opSend l) (replyIn opSend l) (step opSend c)
+    k : Kept (toldOf opSend l) (step opSend c)
     k = agrees-step opSend l c a
 
-    all : List ℕ
-    all = wordsOfAll (l .taken)
+    told : Bool → Told
+    told b = cond b (tells 5 0 l) (tells 0 (getD (wordsOfAll (l .taken)) (l .sent) 0) (sentMore 1 l))
 
-    go : (b : Bool) → eqb (left l) 0 ≡ b → replyNumber (step opSend c .reply) ≡ cond b (says 5 0) (says 0 (getD (wordsOfAll (l .taken)) (l .sent) 0)) .number → step opSend c .value ≡ cond b (says 5 0) (says 0 (getD (wordsOfAll (l .taken)) (l .sent) 0)) .value → comeWithin n (step opSend c .chip) ≡ take n (drop (l .sent + min 1 (left l)) (wordsOfAll (l .taken))) → cond (eqb (replyNumber (step opSend c .reply)) 0) (step opSend c .value ∷ comeWithin n (step opSend c .chip)) [] ≡ take (suc n) (drop (l .sent) (wordsOfAll (l .taken)))
+    go : (b : Bool) → eqb (left l) 0 ≡ b → replyNumber (step opSend c .reply) ≡ told b .number → step opSend c .value ≡ told b .value → comeWithin n (step opSend c .chip) ≡ take n (drop (told b .ledger .sent) (wordsOfAll (told b .ledger .taken))) → cond (eqb (replyNumber (step opSend c .reply)) 5) [] (step opSend c .value ∷ comeWithin n (step opSend c .chip)) ≡ take (suc n) (drop (l .sent) (wordsOfAll (l .taken)))
     go true e m v ih =
         let none : drop (l .sent) (wordsOfAll (l .taken)) ≡ [] =
         drop-of-length-le (wordsOfAll (l .taken)) {i = l .sent} (subst (λ (x : ℕ). x ≤ l .sent) (sym (words-total (l .taken) (a .good .sixteen))) (omega (arith, eqb-true (left l) 0 e))) in
-        ap (λ (x : ℕ). cond (eqb x 0) (step opSend c .value ∷ comeWithin n (step opSend c .chip)) []) m
+        ap (λ (x : ℕ). cond (eqb x 5) [] (step opSend c .value ∷ comeWithin n (step opSend c .chip))) m
         ∙ ap (take (suc n)) (sym none)
     go false e m v ih =
         let f : left l ≡ 0 → ⊥ = eqb-false (left l) 0 e in
         let one : l .sent + min 1 (left l) ≡ suc (l .sent) = omega arith in
         let here : l .sent < length (wordsOfAll (l .taken)) = subst (λ (x : ℕ). l .sent < x) (sym (words-total (l .taken) (a .good .sixteen))) (omega arith) in
-        ap (λ (x : ℕ). cond (eqb x 0) (step opSend c .value ∷ comeWithin n (step opSend c .chip)) []) m
+        ap (λ (x : ℕ). cond (eqb x 5) [] (step opSend c .value ∷ comeWithin n (step opSend c .chip))) m
         ∙ ap₂ (λ (w : ℕ) (r : List ℕ). w ∷ r) v (ih ∙ ap (λ (x : ℕ). take n (drop x (wordsOfAll (l .taken)))) one)
         ∙ ap (take (suc n)) (sym (drop-cons (wordsOfAll (l .taken)) (l .sent) 0 here))
 
@@ -245,7 +221,7 @@ come-words (suc n) l c a = go (eqb (left l) 0) refl (k .number) (k .value) (come
 eighty : (s : Sample) → lengthOf s ≤ 80
 eighty s = go (resource (s .header))
   where
-    go : (r : Bool) → sampleLength firstChip r ≤ 80
+    go : (r : Bool) → cond r 80 16 ≤ 80
     go true = omega arith
     go false = omega arith
 

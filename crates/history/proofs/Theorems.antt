@@ -1,28 +1,29 @@
 -- Demand 3, for every list of operations from a fresh chip, with no hypothesis on the list. The proof is one relation between ledger
 -- and record (`Agrees`), kept by every operation (`Steps`), and a fold. Assumes nothing.
-use Prim.Native.Nat.{ℕ, zero, suc, _+_, _-_, _*_, _%_, _^_, _≤_, _<_}
-use native.Mathlib.Nat.{lt-irrefl}
+use Prim.Native.Nat.{ℕ, _+_, _-_, _%_, _^_, _≤_}
 use native.Mathlib.Omega.{arith}
-use mathlib.Core.Path.{_≡_, refl, sym, ap, ap₂, _∙_, subst}
+use mathlib.Core.Path.{_≡_, refl, sym, ap, ap₂, _∙_}
 use mathlib.Core.Bool.{Bool, true, false, cond}
 use mathlib.Core.List.{List, [], _∷_, _++_}
-use lib.Dec.{eqb, lit<}
+use lib.Dec.{eqb, leb}
 use lib.ListN.{length, take, drop, getD, length-drop, take-append-drop, replicate}
 use lib.Seq.{take-all}
-use Rattle.samples.specs.Layout.{firstChip, resource, sampleLength}
-use Rattle.samples.specs.declared.sample.Sample.{Sample}
 use Rattle.queue.specs.Queue.{emptyQueue}
 use Rattle.chip.specs.Chip.{fresh, inside, lineOf, oneLine}
-use Rattle.chip.specs.Fate.{Fate, fateNumber, isOff, isFiltered, isLost, isTold, isTaken}
-use Rattle.chip.specs.Operation.{Operation, opReset, opWrite, opRead, opTicks, opNodes, opEvents, opSend, opFill, step}
-use Rattle.chip.specs.Place.{placeOf}
+use Rattle.chip.specs.Fate.{Fate, fateReply, isOff, isFiltered, isLost, isTold, isTaken}
+use Rattle.chip.specs.Operation.{Operation, opWrite, step}
 use Rattle.chip.specs.Reply.{replyNumber}
+use Rattle.chip.specs.Rows.{triggering}
+use Rattle.chip.specs.Shape.{Shaped}
 use Rattle.chip.specs.declared.chip.Chip.{Chip}
 use Rattle.chip.specs.declared.place.Place.{Place}
-use Rattle.chip.specs.declared.place.Place.the-variants.{Beyond, Nowhere, Reset, Csr, Timestamp, Filter, Waits, Overruns, Mux, Clear, Enable, Disable, Source, Counter, Trace, Resource}
-use Rattle.history.specs.Ledger.{Ledger, after, byFate, fateIn, held, ledgerFrom, ledgerOf, left, readSays, replyIn, resetAt, says, triggerSays, triggered, writeSays}
+use Rattle.chip.specs.declared.place.Place.the-variants.{Trace, Resource}
+use Rattle.chip.proofs.AddressLaws.{place-trigger}
+use Rattle.chip.proofs.Bounds.{fresh-shaped, keeps-shaped}
+use Rattle.chip.proofs.Bounds.{never-15 as inside-never-15}
+use Rattle.history.specs.Ledger.{Ledger, byFate, fateIn, ledgerFrom, ledgerOf, left, resetAt, tells, toldOf, triggered, written}
 use Rattle.history.specs.Run.{chipOf, comeWithin, runFrom, sentFrom, sentOf, toCome}
-use Rattle.history.specs.Stream.{anyHeld, resourcesOf, totalOf, tracesOf, wordsOfAll}
+use Rattle.history.specs.Stream.{totalOf, wordsOfAll}
 use Rattle.history.proofs.Agrees.{Agrees, for-inside}
 use Rattle.history.proofs.CountLaws.{wrapped-at}
 use Rattle.history.proofs.HeldLaws.{words-total}
@@ -38,7 +39,7 @@ fresh-agrees = record { queue = emptyQueue; shadows = replicate 16 0; is = refl;
 run-agrees : (ops : List Operation) (l : Ledger) (c : Chip) → Agrees l c → Agrees (ledgerFrom l ops) (runFrom c ops)
 unfolding ledgerFrom runFrom
 run-agrees [] l c a = a
-run-agrees (op ∷ ops) l c a = run-agrees ops (after op l) (step op c .chip) (agrees-step op l c a .agrees)
+run-agrees (op ∷ ops) l c a = run-agrees ops (toldOf op l .ledger) (step op c .chip) (agrees-step op l c a .agrees)
 
 agrees : (ops : List Operation) → Agrees (ledgerOf ops) (chipOf ops)
 agrees ops = run-agrees ops (resetAt 0) fresh fresh-agrees
@@ -46,36 +47,38 @@ agrees ops = run-agrees ops (resetAt 0) fresh fresh-agrees
 run-stream : (ops : List Operation) (l : Ledger) (c : Chip) (ws : List ℕ) → Agrees l c → ws ≡ take (l .sent) (wordsOfAll (l .taken)) → sentFrom c ws ops ≡ take (ledgerFrom l ops .sent) (wordsOfAll (ledgerFrom l ops .taken))
 unfolding ledgerFrom sentFrom
 run-stream [] l c ws a e = e
-run-stream (op ∷ ops) l c ws a e = run-stream ops (after op l) (step op c .chip) _ (agrees-step op l c a .agrees) (stream-step l c a op ws e)
+run-stream (op ∷ ops) l c ws a e = run-stream ops (toldOf op l .ledger) (step op c .chip) _ (agrees-step op l c a .agrees) (stream-step l c a op ws e)
 
 -- ---- 1. Replies
 
 -- every operation's whole reply is what the list before it says
-pub reply-said : (ops : List Operation) (op : Operation) → (replyNumber (step op (chipOf ops) .reply) ≡ replyIn op (ledgerOf ops) .number) × (step op (chipOf ops) .value ≡ replyIn op (ledgerOf ops) .value)
+pub reply-said : (ops : List Operation) (op : Operation) → (replyNumber (step op (chipOf ops) .reply) ≡ toldOf op (ledgerOf ops) .number) × (step op (chipOf ops) .value ≡ toldOf op (ledgerOf ops) .value)
 reply-said ops op = let k = agrees-step op (ledgerOf ops) (chipOf ops) (agrees ops) in (k .number, k .value)
 
--- so each unrefused trigger's reply is the number of its fate: a Trace trigger's, then a Resource trigger's
-pub trace-fate : (ops : List Operation) (address level word lines : ℕ) → placeOf address ≡ Trace level → oneLine lines ≡ true → replyNumber (step (opWrite address word lines) (chipOf ops) .reply) ≡ fateNumber (fateIn false level (ledgerOf ops))
-unfolding replyIn writeSays
-trace-fate ops address level word lines p e =
+-- so each unrefused trigger's reply is that of its fate: from 112 on it is a Resource trigger, and its level is the address modulo 16
+pub trigger-fate : (ops : List Operation) (address word lines : ℕ) → triggering address ≡ true → oneLine lines ≡ true → replyNumber (step (opWrite address word lines) (chipOf ops) .reply) ≡ replyNumber (fateReply (fateIn (leb 112 address) (address % 16) (ledgerOf ops)))
+unfolding toldOf written triggered byFate
+trigger-fate ops address word lines p e =
+    let l : Ledger = ledgerOf ops in
     reply-said ops (opWrite address word lines) .0
-    ∙ ap (λ (x : Place). writeSays x lines (ledgerOf ops) .number) p
-    ∙ ap (λ (b : Bool). cond b (says (fateNumber (fateIn false level (ledgerOf ops))) 0) (says 4 0) .number) e
+    ∙ ap (λ (x : Place). written x word lines l .number) (place-trigger address p)
+    ∙ kind (leb 112 address)
+  where
+    number : (f : Fate) (r : Bool) (line : ℕ) (l : Ledger) → byFate f r line word l .number ≡ replyNumber (fateReply f)
+    number isOff r line l = refl
+    number isFiltered r line l = refl
+    number isLost r line l = refl
+    number isTold r line l = refl
+    number isTaken r line l = refl
 
-pub resource-fate : (ops : List Operation) (address level word lines : ℕ) → placeOf address ≡ Resource level → oneLine lines ≡ true → replyNumber (step (opWrite address word lines) (chipOf ops) .reply) ≡ fateNumber (fateIn true level (ledgerOf ops))
-unfolding replyIn writeSays
-resource-fate ops address level word lines p e =
-    reply-said ops (opWrite address word lines) .0
-    ∙ ap (λ (x : Place). writeSays x lines (ledgerOf ops) .number) p
-    ∙ ap (λ (b : Bool). cond b (says (fateNumber (fateIn true level (ledgerOf ops))) 0) (says 4 0) .number) e
+    by-line : (r : Bool) → triggered r (address % 16) word lines (ledgerOf ops) .number ≡ replyNumber (fateReply (fateIn r (address % 16) (ledgerOf ops)))
+    by-line r =
+        let f : Fate = fateIn r (address % 16) (ledgerOf ops) in
+        ap (λ (b : Bool). cond b (byFate f r (lineOf lines) word (ledgerOf ops)) (tells 4 0 (ledgerOf ops)) .number) e ∙ number f r (lineOf lines) (ledgerOf ops)
 
--- and a trigger without exactly one line leaves the ledger
-pub refused-ledger : (r : Bool) (level word lines : ℕ) (l : Ledger) → oneLine lines ≡ false → (triggered r level word lines l ≡ l) × (triggerSays r level lines l .number ≡ 4)
-unfolding triggered
-refused-ledger r level word lines l e = (
-  ap (λ (b : Bool). cond b (byFate (fateIn r level l) r (lineOf lines) word l) l) e,
-  ap (λ (b : Bool). cond b (says (fateNumber (fateIn r level l)) 0) (says 4 0) .number) e,
-)
+    kind : (r : Bool) → written (cond r (Resource (address % 16)) (Trace (address % 16))) word lines (ledgerOf ops) .number ≡ replyNumber (fateReply (fateIn r (address % 16) (ledgerOf ops)))
+    kind true = by-line true
+    kind false = by-line false
 
 -- ---- 2. The words sent since the last reset, then the words still to come, are the words of the samples taken since then
 
@@ -105,17 +108,8 @@ word-sum ops =
 
 -- ---- 3. So their number is 16 for each Trace and 80 for each Resource sample taken
 
-total-kinds : (ss : List Sample) → totalOf ss ≡ 16 * tracesOf ss + 80 * resourcesOf ss
-unfolding totalOf tracesOf resourcesOf
-total-kinds [] = refl
-total-kinds (s ∷ ss) = go (resource (s .header)) (total-kinds ss)
-  where
-    go : (r : Bool) → totalOf ss ≡ 16 * tracesOf ss + 80 * resourcesOf ss → sampleLength firstChip r + totalOf ss ≡ 16 * (cond r 0 1 + tracesOf ss) + 80 * (cond r 1 0 + resourcesOf ss)
-    go true e = omega arith
-    go false e = omega arith
-
-pub word-count : (ops : List Operation) → length (sentOf ops ++ toCome (chipOf ops)) ≡ 16 * tracesOf (ledgerOf ops .taken) + 80 * resourcesOf (ledgerOf ops .taken)
-word-count ops = ap length (word-sum ops) ∙ words-total (ledgerOf ops .taken) (agrees ops .good .sixteen) ∙ total-kinds (ledgerOf ops .taken)
+pub word-count : (ops : List Operation) → length (sentOf ops ++ toCome (chipOf ops)) ≡ totalOf (ledgerOf ops .taken)
+word-count ops = ap length (word-sum ops) ∙ words-total (ledgerOf ops .taken) (agrees ops .good .sixteen)
 
 -- ---- 4. The Overrun Counter is the lost triggers since its last clearing, modulo 2^32
 
@@ -142,77 +136,15 @@ always-inside ops =
     let a : Agrees (ledgerOf ops) (chipOf ops) = agrees ops in
     ap inside (a .is) ∙ for-inside (ledgerOf ops) (a .queue) (a .shadows) (a .good)
 
-fate-below : (f : Fate) → fateNumber f < 15
-fate-below isOff = lit< tt
-fate-below isFiltered = lit< tt
-fate-below isLost = lit< tt
-fate-below isTold = lit< tt
-fate-below isTaken = lit< tt
+pub never-15 : (ops : List Operation) (op : Operation) → eqb (replyNumber (step op (chipOf ops) .reply)) 15 ≡ false
+never-15 ops op = inside-never-15 op (chipOf ops) (always-inside ops)
 
-trigger-below : (r : Bool) (level lines : ℕ) (l : Ledger) → triggerSays r level lines l .number < 15
-trigger-below r level lines l = go (oneLine lines)
+-- ---- 8. And its lists have the lengths and widths that their types give
+
+pub always-shaped : (ops : List Operation) → Shaped (chipOf ops)
+unfolding runFrom
+always-shaped ops = go ops fresh fresh-shaped
   where
-    go : (b : Bool) → cond b (says (fateNumber (fateIn r level l)) 0) (says 4 0) .number < 15
-    go true = fate-below (fateIn r level l)
-    go false = lit< tt
-
-write-below : (p : Place) (lines : ℕ) (l : Ledger) → writeSays p lines l .number < 15
-unfolding writeSays
-write-below Beyond lines l = lit< tt
-write-below Nowhere lines l = lit< tt
-write-below Reset lines l = lit< tt
-write-below Csr lines l = lit< tt
-write-below Timestamp lines l = lit< tt
-write-below Filter lines l = lit< tt
-write-below Waits lines l = lit< tt
-write-below Overruns lines l = lit< tt
-write-below Mux lines l = lit< tt
-write-below Clear lines l = lit< tt
-write-below Enable lines l = lit< tt
-write-below Disable lines l = lit< tt
-write-below (Source i) lines l = lit< tt
-write-below (Counter i) lines l = lit< tt
-write-below (Trace level) lines l = trigger-below false level lines l
-write-below (Resource level) lines l = trigger-below true level lines l
-
-read-below : (p : Place) (l : Ledger) → readSays p l .number < 15
-unfolding readSays
-read-below Beyond l = lit< tt
-read-below Nowhere l = lit< tt
-read-below Reset l = lit< tt
-read-below Csr l = lit< tt
-read-below Timestamp l = lit< tt
-read-below Filter l = lit< tt
-read-below Waits l = lit< tt
-read-below Overruns l = lit< tt
-read-below Mux l = lit< tt
-read-below Clear l = lit< tt
-read-below Enable l = lit< tt
-read-below Disable l = lit< tt
-read-below (Source i) l = lit< tt
-read-below (Counter i) l = go (anyHeld (held l)) (l .settings .readwait)
-  where
-    go : (b w : Bool) → cond b (cond w (says 10 0) (says 11 (2 ^ 63))) (says 0 (getD (l .events) i 0 % 2 ^ 32)) .number < 15
-    go true true = lit< tt
-    go true false = lit< tt
-    go false w = lit< tt
-read-below (Trace level) l = lit< tt
-read-below (Resource level) l = lit< tt
-
-said-below : (op : Operation) (l : Ledger) → replyIn op l .number < 15
-unfolding replyIn
-said-below opReset l = lit< tt
-said-below (opWrite address word lines) l = write-below (placeOf address) lines l
-said-below (opRead address) l = read-below (placeOf address) l
-said-below (opTicks k) l = lit< tt
-said-below (opNodes k) l = lit< tt
-said-below (opEvents mask) l = lit< tt
-said-below opSend l = go (eqb (left l) 0)
-  where
-    go : (b : Bool) → cond b (says 5 0) (says 0 (getD (wordsOfAll (l .taken)) (l .sent) 0)) .number < 15
-    go true = lit< tt
-    go false = lit< tt
-said-below (opFill room) l = lit< tt
-
-pub never-15 : (ops : List Operation) (op : Operation) → replyNumber (step op (chipOf ops) .reply) ≡ 15 → ⊥
-never-15 ops op e = lt-irrefl 15 (subst (λ (n : ℕ). n < 15) (sym (reply-said ops op .0) ∙ e) (said-below op (ledgerOf ops)))
+    go : (os : List Operation) (c : Chip) → Shaped c → Shaped (runFrom c os)
+    go [] c s = s
+    go (op ∷ os) c s = go os (step op c .chip) (keeps-shaped op c s)

@@ -19,48 +19,28 @@ use Rattle.queue.specs.declared.queue.Queue.{Queue}
 use Rattle.chip.specs.Chip.{blocked, done, fateOf, headerOf, lacksRoom, lineOf, oneLine, replied, sampleNow, takeSample, trigger, triggerBy, withControl}
 use Rattle.chip.specs.Control.{one, overran, waited}
 use Rattle.chip.specs.Control.{withErrors as Control·withErrors}
-use Rattle.chip.specs.Fate.{Fate, fate, fateNumber, isOff, isFiltered, isLost, isTold, isTaken}
+use Rattle.chip.specs.Fate.{Fate, fate, fateReply, isOff, isFiltered, isLost, isTold, isTaken}
+use Rattle.chip.specs.Reply.{replyNumber}
+use Rattle.chip.proofs.Words.{header-kind, line-below}
 use Rattle.chip.specs.declared.chip.Answer.{Answer}
 use Rattle.chip.specs.declared.chip.Chip.{Chip}
 use Rattle.chip.specs.declared.control.Control.{Control}
 use Rattle.counters.specs.declared.bank.Bank.{Bank}
 use Rattle.chip.specs.declared.reply.Reply.the-variants.{Lines, Lost, Wait}
-use Rattle.history.specs.Ledger.{Ledger, byFate, fateIn, held, lostOne, says, sampleIn, triggerSays, triggered, unmarked, waitedOne, withErrors}
+use Rattle.history.specs.Ledger.{Ledger, byFate, fateIn, held, lostOne, sampleIn, tells, triggered, unmarked, waitedOne, withErrors}
 use Rattle.history.specs.Stream.{anyHeld, heldOf, isBlocked, isFull}
 use Rattle.history.proofs.Agrees.{Agrees, Good, Kept, chipFor, controlOf, switchesOf}
 use Rattle.history.proofs.CountLaws.{wrapped, wrapped-grown}
 use Rattle.history.proofs.HeldLaws.{Sixteen, sixteen-more}
 use Rattle.history.proofs.HoldsLaws.{Holds, holds-busy, holds-copied, holds-full, holds-pushed}
 
--- with one active line, its number is below eight
-line-below : (k n : ℕ) → 0 < onesIn k n → trailingZeros k n < k
-unfolding onesIn trailingZeros
-line-below zero n h = absurd (not-suc-le-zero h)
-line-below (suc k) n h = go (n % 2) refl (λ p. line-below k (n / 2) p)
-  where
-    go : (d : ℕ) → n % 2 ≡ d → (0 < onesIn k (n / 2) → trailingZeros k (n / 2) < k) → under d (trailingZeros k (n / 2)) < suc k
-    go zero e ih = suc-le-suc (ih (omega arith))
-    go (suc d) e ih = zero-lt-suc k
-
-pub one-line : (lines : ℕ) → oneLine lines ≡ true → lineOf lines < 8
-one-line lines e = line-below 8 lines (omega (arith, eqb-true (onesIn 8 lines) 1 e))
-
--- bit 3 of the header is the kind
-one-below : (b : Bool) → one b < 2
-one-below true = omega arith
-one-below false = omega arith
-
-kind-bit : (line : ℕ) (r mark : Bool) → line < 8 → resource (headerOf line r mark) ≡ r
-kind-bit line true mark h = eq-eqb (headerOf line true mark / 8 % 2) 1 (omega (arith, one-below mark))
-kind-bit line false mark h = ne-eqb (headerOf line false mark / 8 % 2) 1 (λ q. let z : headerOf line false mark / 8 % 2 ≡ 0 = omega (arith, one-below mark) in omega arith)
-
 -- only a trigger that lacks no room is taken
 taken-room : (a b c d : Bool) → fate a b c d ≡ isTaken → c ≡ false
-taken-room true true true true e = absurd (suc-ne-zero _ (ap fateNumber e))
-taken-room true true true false e = absurd (suc-ne-zero _ (ap fateNumber e))
+taken-room true true true true e = absurd (suc-ne-zero _ (ap (λ (f : Fate). replyNumber (fateReply f)) e))
+taken-room true true true false e = absurd (suc-ne-zero _ (ap (λ (f : Fate). replyNumber (fateReply f)) e))
 taken-room true true false d e = refl
-taken-room true false c d e = absurd (suc-ne-zero _ (ap fateNumber e))
-taken-room false b c d e = absurd (suc-ne-zero _ (ap fateNumber e))
+taken-room true false c d e = absurd (suc-ne-zero _ (ap (λ (f : Fate). replyNumber (fateReply f)) e))
+taken-room false b c d e = absurd (suc-ne-zero _ (ap (λ (f : Fate). replyNumber (fateReply f)) e))
 
 or-left : (a b : Bool) → (a || b) ≡ false → a ≡ false
 or-left true b e = e
@@ -91,7 +71,7 @@ module _ (l : Ledger) (q : Queue) (sh : List ℕ) (g : Good l q sh) where
   sample-same r line word h =
       let stamp : l .clock % 2 ^ 56 % 2 ^ 40 ≡ l .clock % 2 ^ 40 = mod-mod-pow (l .clock) 16 40 in
       let counters : cond (resource (headerOf line r (l .errors .mark))) (cond r (map wrapped (l .events)) sh) (replicate 16 0) ≡ cond r (map wrapped (l .events)) (replicate 16 0) =
-      ap (λ (b : Bool). cond b (cond r (map wrapped (l .events)) sh) (replicate 16 0)) (kind-bit line r (l .errors .mark) h) ∙ twice r in
+      ap (λ (b : Bool). cond b (cond r (map wrapped (l .events)) sh) (replicate 16 0)) (header-kind line h r (l .errors .mark)) ∙ twice r in
       λ i. record { user = word % 2 ^ 48; stamp = stamp i; source = getD (l .sources) line 0; header = headerOf line r (l .errors .mark); counters = counters i }
     where
       twice : (b : Bool) → cond b (cond b (map wrapped (l .events)) sh) (replicate 16 0) ≡ cond b (map wrapped (l .events)) (replicate 16 0)
@@ -119,7 +99,7 @@ module _ (l : Ledger) (q : Queue) (sh : List ℕ) (g : Good l q sh) where
   bank-same false = refl
 
   -- one wait more
-  pub told : Kept (withErrors (waitedOne (l .errors)) l) (says 10 0) (replied Wait (withControl (waited (controlOf l)) (chipFor l q sh)))
+  pub told : Kept (tells 10 0 (withErrors (waitedOne (l .errors)) l)) (replied Wait (withControl (waited (controlOf l)) (chipFor l q sh)))
   told =
       record {
         agrees =
@@ -134,7 +114,7 @@ module _ (l : Ledger) (q : Queue) (sh : List ℕ) (g : Good l q sh) where
       }
 
   -- what each fate does
-  by-fate : (f : Fate) (r : Bool) (level line word : ℕ) → line < 8 → fateOf r level (chipFor l q sh) ≡ f → Kept (byFate f r line word l) (says (fateNumber f) 0) (triggerBy f r line word (chipFor l q sh))
+  by-fate : (f : Fate) (r : Bool) (level line word : ℕ) → line < 8 → fateOf r level (chipFor l q sh) ≡ f → Kept (byFate f r line word l) (triggerBy f r line word (chipFor l q sh))
   unfolding byFate triggerBy
   by-fate isOff r level line word h e = record { agrees = record { queue = q; shadows = sh; is = refl; good = g }; number = refl; value = refl }
   by-fate isFiltered r level line word h e = record { agrees = record { queue = q; shadows = sh; is = refl; good = g }; number = refl; value = refl }
@@ -183,15 +163,15 @@ module _ (l : Ledger) (q : Queue) (sh : List ℕ) (g : Good l q sh) where
       }
 
   -- a trigger, refused with 4 or by its fate
-  pub trigger-kept : (r : Bool) (level word lines : ℕ) → Kept (triggered r level word lines l) (triggerSays r level lines l) (trigger r level word lines (chipFor l q sh))
+  pub trigger-kept : (r : Bool) (level word lines : ℕ) → Kept (triggered r level word lines l) (trigger r level word lines (chipFor l q sh))
   unfolding triggered trigger
   trigger-kept r level word lines = go (oneLine lines) refl
     where
       c : Chip
       c = chipFor l q sh
 
-      go : (b : Bool) → oneLine lines ≡ b → Kept (cond b (byFate (fateIn r level l) r (lineOf lines) word l) l) (cond b (says (fateNumber (fateIn r level l)) 0) (says 4 0)) (cond b (triggerBy (fateOf r level c) r (lineOf lines) word c) (replied Lines c))
+      go : (b : Bool) → oneLine lines ≡ b → Kept (cond b (byFate (fateIn r level l) r (lineOf lines) word l) (tells 4 0 l)) (cond b (triggerBy (fateOf r level c) r (lineOf lines) word c) (replied Lines c))
       go true e =
-          subst (λ (f : Fate). Kept (byFate (fateIn r level l) r (lineOf lines) word l) (says (fateNumber (fateIn r level l)) 0) (triggerBy f r (lineOf lines) word (chipFor l q sh))) (sym (fate-same r level))
-          (by-fate (fateIn r level l) r level (lineOf lines) word (one-line lines e) (fate-same r level))
+          subst (λ (f : Fate). Kept (byFate (fateIn r level l) r (lineOf lines) word l) (triggerBy f r (lineOf lines) word (chipFor l q sh))) (sym (fate-same r level))
+          (by-fate (fateIn r level l) r level (lineOf lines) word (line-below lines e) (fate-same r level))
       go false e = record { agrees = record { queue = q; shadows = sh; is = refl; good = g }; number = refl; value = refl }

@@ -1,4 +1,5 @@
--- Demand 3: the chip's side. A list of operations run on a chip, the words that it sent since the last reset, and those still to come.
+-- Document 01, "Triggers and the queue", the chip's side of "For demand 3": a list of operations run on a chip, the words that it sent since
+-- the last reset, and those still to come.
 use Prim.Native.Nat.{ℕ, zero, suc}
 use mathlib.Core.Bool.{cond}
 use mathlib.Core.List.{List, [], _∷_, _++_}
@@ -6,7 +7,6 @@ use lib.Dec.{eqb}
 use lib.ListN.{replicate, take}
 use Rattle.chip.specs.Chip.{fresh, sentBuffer}
 use Rattle.chip.specs.Operation.{Operation, opReset, opWrite, opRead, opTicks, opNodes, opEvents, opSend, opFill, step}
-use Rattle.chip.specs.Place.{placeOf}
 use Rattle.chip.specs.Reply.{replyNumber}
 use Rattle.chip.specs.declared.chip.Chip.{Chip}
 
@@ -18,18 +18,8 @@ runFrom c (op ∷ ops) = runFrom (step op c .chip) ops
 abbrev pub chipOf : List Operation → Chip
 chipOf ops = runFrom fresh ops
 
--- the words that an operation sends: the value of a send that is done; what a buffer send wrote at the start of a buffer
-unfoldable pub wordsBy : Operation → Chip → List ℕ
-wordsBy opReset c = []
-wordsBy (opWrite address word lines) c = []
-wordsBy (opRead address) c = []
-wordsBy (opTicks k) c = []
-wordsBy (opNodes k) c = []
-wordsBy (opEvents mask) c = []
-wordsBy opSend c = cond (eqb (replyNumber (step opSend c .reply)) 0) (step opSend c .value ∷ []) []
-wordsBy (opFill room) c = take (step (opFill room) c .value) (sentBuffer c (replicate room 0))
-
--- a reset begins the stream anew: the hardware reset, and a write at address 0
+-- the words sent since the last reset, after one operation more: a reset, also a write at address 0, begins anew; a send that is done
+-- adds its value, and a buffer send what it wrote at the start of a buffer
 unfoldable pub streamAfter : Operation → Chip → List ℕ → List ℕ
 streamAfter opReset c ws = []
 streamAfter (opWrite address word lines) c ws = cond (eqb address 0) [] ws
@@ -37,10 +27,10 @@ streamAfter (opRead address) c ws = ws
 streamAfter (opTicks k) c ws = ws
 streamAfter (opNodes k) c ws = ws
 streamAfter (opEvents mask) c ws = ws
-streamAfter opSend c ws = ws ++ wordsBy opSend c
-streamAfter (opFill room) c ws = ws ++ wordsBy (opFill room) c
+streamAfter opSend c ws = ws ++ cond (eqb (replyNumber (step opSend c .reply)) 0) (step opSend c .value ∷ []) []
+streamAfter (opFill room) c ws = ws ++ take (step (opFill room) c .value) (sentBuffer c (replicate room 0))
 
--- the words sent since the last reset
+-- after all of them
 unfoldable pub sentFrom : Chip → List ℕ → List Operation → List ℕ
 sentFrom c ws [] = ws
 sentFrom c ws (op ∷ ops) = sentFrom (step op c .chip) (streamAfter op c ws) ops
@@ -53,8 +43,8 @@ sentOf ops = sentFrom fresh [] ops
 unfoldable pub comeWithin : ℕ → Chip → List ℕ
 comeWithin zero c = []
 comeWithin (suc n) c =
-    cond (eqb (replyNumber (step opSend c .reply)) 0) (step opSend c .value ∷ comeWithin n (step opSend c .chip)) []
+    cond (eqb (replyNumber (step opSend c .reply)) 5) [] (step opSend c .value ∷ comeWithin n (step opSend c .chip))
 
--- eight samples of at most 80 words are held: 640 is enough, and the theorem says so
+-- eight samples of at most 80 words are held: 640 is enough (`come-enough`)
 abbrev pub toCome : Chip → List ℕ
 toCome c = comeWithin 640 c

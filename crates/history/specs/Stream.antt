@@ -5,14 +5,14 @@ use mathlib.Core.Bool.{Bool, false, cond, _&&_, _||_}
 use mathlib.Core.List.{List, [], _∷_, _++_}
 use lib.Dec.{leb}
 use lib.ListN.{length}
-use Rattle.samples.specs.Layout.{firstChip, resource, sampleLength, sampleWords}
+use Rattle.samples.specs.Layout.{firstChip, resource, sampleWords}
 use Rattle.samples.specs.declared.sample.Sample.{Sample}
 
--- "16 words for each Trace, 80 for each Resource sample"
+-- "That is 16 bytes. A Resource sample adds ..: 80", a word for each
 abbrev pub lengthOf : Sample → ℕ
-lengthOf s = sampleLength firstChip (resource (s .header))
+lengthOf s = cond (resource (s .header)) 80 16
 
--- the words of samples, one sample after the other, and their number
+-- "in order with their lengths": the words of samples, one sample after the other, and how many that must be
 unfoldable pub wordsOfAll : List Sample → List ℕ
 wordsOfAll [] = []
 wordsOfAll (s ∷ ss) = sampleWords firstChip s ++ wordsOfAll ss
@@ -37,12 +37,3 @@ isFull held = leb 8 (length held)
 
 abbrev pub isBlocked : Bool → List Sample → Bool
 isBlocked resource held = resource && anyHeld held
-
--- how many of the samples are Trace, and how many Resource samples
-unfoldable pub tracesOf : List Sample → ℕ
-tracesOf [] = 0
-tracesOf (s ∷ ss) = cond (resource (s .header)) 0 1 + tracesOf ss
-
-unfoldable pub resourcesOf : List Sample → ℕ
-resourcesOf [] = 0
-resourcesOf (s ∷ ss) = cond (resource (s .header)) 1 0 + resourcesOf ss
