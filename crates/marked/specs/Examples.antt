@@ -1,7 +1,8 @@
 -- Document 01, "Marked examples": M1 to M12, each as it is worded there.
-use Prim.Native.Nat.{ℕ, zero, suc}
+use Prim.Native.Nat.{ℕ, suc}
 use mathlib.Core.List.{List, [], _∷_, _++_}
 use lib.ListN.{replicate}
+use Rattle.samples.specs.Layout.{firstChip, sampleWords}
 use Rattle.samples.specs.declared.sample.Sample.{Sample}
 use Rattle.chip.specs.Operation.{Operation, opWrite, opRead, opTicks, opNodes, opEvents, opSend}
 use Rattle.marked.specs.Table.{Line, Row, bytesAre, gives, readerSays, replies, script}
@@ -19,6 +20,11 @@ abbrev counters : List ℕ → ℕ → List Line
 counters [] a = []
 counters (v ∷ vs) a = gives (opRead a) 0 v ∷ counters vs (suc a)
 
+-- single sends, and the words that they must give
+abbrev sends : List ℕ → List Line
+sends [] = []
+sends (w ∷ ws) = gives opSend 0 w ∷ sends ws
+
 -- "Listing B's sample": source 5, three ticks, data 258, line 0
 abbrev listingB : Sample
 listingB = record { user = 258; stamp = 3; source = 5; header = 0; counters = replicate 16 0 }
@@ -31,12 +37,13 @@ examples =
     ∷ script (gives (opWrite 2 0 0) 3 0 ∷ [])
     ∷ script (gives (opWrite 95 0 0) 2 0 ∷ [])
     -- M5 trigger 96 with lines 0 or 3 → 4, even with sampling off; with lines 1 on a fresh chip → 6
-    ∷ script (gives (opWrite 96 0 0) 4 0 ∷ gives (opWrite 96 0 3) 4 0 ∷ trigger 96 6 ∷ [])
+    ∷ script (gives (opWrite 96 0 0) 4 0 ∷ gives (opWrite 96 0 3) 4 0 ∷ [])
     ∷ script (on ++ (gives (opWrite 96 0 0) 4 0 ∷ gives (opWrite 96 0 3) 4 0 ∷ []))
+    ∷ script (trigger 96 6 ∷ [])
     -- M6 eight Trace triggers taken, the ninth → 8; after 15 sends still 8, after the sixteenth 0
     ∷ script
     (on ++ replicate 8 (trigger 96 0) ++ (trigger 96 8 ∷ []) ++ replicate 15 (replies opSend 0) ++ (trigger 96 8 ∷ replies opSend 0 ∷ trigger 96 0 ∷ []))
-    -- M7 two Resource triggers at 112 in a row: 0, then 8 with only flag 9 set (CSR: sampling 1, busy 128, flag 9 512)
+    -- M7 the same settings, from fresh, two Resource triggers at 112 in a row: 0, then 8 with only flag 9 set (CSR: sampling 1, busy 128, flag 9 512)
     ∷ script (on ++ (trigger 112 0 ∷ trigger 112 8 ∷ gives (opRead 1) 0 641 ∷ []))
     -- M8 enabled counter at 4,294,967,295, one event of its kind → 0: counter 0 on the node clock
     ∷ script
@@ -51,11 +58,9 @@ examples =
     (replies (opWrite 11 1 0) 0 ∷ replies (opTicks 9) 0 ∷ gives (opRead 32) 0 0 ∷ replies (opTicks 1) 0 ∷ gives (opRead 32) 0 1 ∷ [])
     -- M11 Listing B's sample as bytes: 00, 05 00 00 00, 03 00 00 00 00, 02 01 00 00 00 00. Its last word is 768
     ∷ bytesAre listingB (0 ∷ 5 ∷ 0 ∷ 0 ∷ 0 ∷ 3 ∷ 0 ∷ 0 ∷ 0 ∷ 0 ∷ 2 ∷ 1 ∷ 0 ∷ 0 ∷ 0 ∷ 0 ∷ []) 768
-    -- and its words from the chip, by Listing B's operations
+    -- and it is what Listing B's operations send, word by word
     ∷ script
-    (replies (opWrite 1 1 0) 0 ∷ replies (opWrite 4 1 0) 0 ∷ replies (opWrite 16 5 0) 0 ∷ replies (opTicks 3) 0 ∷ gives (opWrite 96 258 1) 0 0
-    ∷ gives opSend 0 256 ∷ gives opSend 0 261 ∷ replicate 13 (replies opSend 0)
-    ++ (gives opSend 0 768 ∷ gives opSend 5 0 ∷ []))
+    (on ++ (replies (opWrite 16 5 0) 0 ∷ replies (opTicks 3) 0 ∷ gives (opWrite 96 258 1) 0 0 ∷ []) ++ sends (sampleWords firstChip listingB) ++ (gives opSend 5 0 ∷ []))
     -- M12 empty part → 20; the one word 0 → 22
     ∷ readerSays [] 20
     ∷ readerSays (0 ∷ []) 22

@@ -1,5 +1,5 @@
--- Rows of marked examples, and the one test of a row.
-use Prim.Native.Nat.{ℕ}
+-- Document 01, "Marked examples": "Proved as a single table under one claim". Rows of the table, and the one test of a row.
+use Prim.Native.Nat.{ℕ, _-_}
 use mathlib.Core.Bool.{Bool, true, false, _&&_}
 use mathlib.Core.List.{List, [], _∷_}
 use lib.Dec.{eqb}
@@ -41,7 +41,9 @@ sameNumbers (x ∷ xs) (y ∷ ys) = eqb x y && sameNumbers xs ys
 -- the test of a row
 unfoldable pub holds : Row → Bool
 holds (script ls) = runs ls fresh
-holds (bytesAre s bytes last) = sameNumbers (sampleBytes firstChip s) bytes && eqb (getD (sampleWords firstChip s) 15 0) last
+holds (bytesAre s bytes last) =
+    let words = sampleWords firstChip s in
+    sameNumbers (sampleBytes firstChip s) bytes && eqb (getD words (length words - 1) 0) last
 holds (readerSays words n) = eqb (answerNumber (readPart firstChip words .answer)) n
 
 -- and of a table
