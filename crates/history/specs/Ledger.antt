@@ -193,8 +193,7 @@ written Disable word lines l =
     let s = l .select in
     withSelect (record { enabled = bitAnd (s .enabled) (2 ^ 16 - 1 - word % 2 ^ 16); low = s .low; high = s .high }) l
 written (Source i) word lines l = withSources (set (l .sources) i (word % 2 ^ 32)) l
-written (Counter i) word lines l =
-    cond (dueTo Software (l .select) i) (withEvents (set (l .events) i (getD (l .events) i 0 + 1)) l) l
+written (Counter i) word lines l = happened (λ j. eqb j i && dueTo Software (l .select) j) 1 l
 written (Trace level) word lines l = triggered false level word lines l
 written (Resource level) word lines l = triggered true level word lines l
 
