@@ -1,14 +1,11 @@
 -- `counters::bank::Bank::bumped` meets its contract: the store is one counter's event, and past the sixteenth nothing is stored or counted.
 -- Assumes nothing.
 use borrow.Author.Needs.{needs}
-use Prim.Native.Nat.{ℕ}
 use mathlib.Core.Path.{_≡_, ap, sym, _∙_}
-use mathlib.Core.List.{List}
 use lib.ListN.{length, getD, set}
 use native.Mathlib.Omega.{arith}
 use lib.Seq.{set-out}
 use Rattle.counters.specs.Bank.{grown}
-use Rattle.counters.specs.declared.bank.Bank.{Bank}
 use Rattle.counters.proofs.EachLaws.{store-each}
 use Rattle.counters.proofs.bank.Bank.bumped.Statement.{statement}
 use Rattle.counters.proofs.bank.Bank.bumped.Tie as tie
