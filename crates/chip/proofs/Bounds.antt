@@ -11,7 +11,7 @@ use borrow.Author.Tests.{eqb-false, lt-ltb, ltb-true}
 use Rattle.samples.specs.Layout.{counterWidths}
 use Rattle.samples.specs.Write.{within}
 use Rattle.samples.proofs.Gather.{both-left, both-right}
-use Rattle.counters.specs.Bank.{bit, bumped, cleared, copied, counting, grown}
+use Rattle.counters.specs.Bank.{bit, cleared, copied, counting, grown}
 use Rattle.counters.specs.Due.{due, signalled, slowEvents, ticked}
 use Rattle.counters.specs.declared.bank.Bank.{Bank}
 use Rattle.counters.specs.declared.switches.Kind.the-variants.{Slow, External, Software, Node}
@@ -158,17 +158,12 @@ clear-below false v h = h
 counting-in : (f : ℕ → Bool) (k : ℕ) (b : Bank) → within counterWidths (b .values) ≡ true → within counterWidths (counting f k b .values) ≡ true
 counting-in f k b e = each-within 4 16 (λ i v. cond (f i) (grown v k) v) 0 (b .values) (λ j v h. grow-below (f j) v k h) e
 
-fired-in : (t : Bool) (i : ℕ) (b : Bank) → within counterWidths (b .values) ≡ true → within counterWidths (cond t (bumped i b) b .values) ≡ true
-fired-in true i b e = within-set 4 16 (b .values) i (grown (getD (b .values) i 0) 1) e (omega arith)
-fired-in false i b e = e
-
-fired-shadows : (t : Bool) (i : ℕ) (b : Bank) → within counterWidths (b .shadows) ≡ true → within counterWidths (cond t (bumped i b) b .shadows) ≡ true
-fired-shadows true i b e = e
-fired-shadows false i b e = e
-
 -- what a record's other bank or queue has to be for its lists to stay as they are
 shaped-bank : (c : Chip) (b : Bank) → Shaped c → within counterWidths (b .values) ≡ true → within counterWidths (b .shadows) ≡ true → Shaped (withBank b c)
 shaped-bank c b s v w = record { places = s .places; sources = s .sources; values = v; shadows = w }
+
+counting-shaped : (f : ℕ → Bool) (k : ℕ) (c : Chip) → Shaped c → Shaped (withBank (counting f k (c .bank)) c)
+counting-shaped f k c s = shaped-bank c (counting f k (c .bank)) s (counting-in f k (c .bank) (s .values)) (s .shadows)
 
 shaped-queue : (c : Chip) (q : Queue) → Shaped c → length (q .places) ≡ 8 → Shaped (withQueue q c)
 shaped-queue c q s e = record { places = e; sources = s .sources; values = s .values; shadows = s .shadows }
@@ -213,16 +208,11 @@ write-shaped (Source i) word lines c s =
       values = s .values;
       shadows = s .shadows;
     }
-write-shaped (Counter i) word lines c s =
-    let due-now : Bool = due Software (c .switches) i in
-    shaped-bank c (cond due-now (bumped i (c .bank)) (c .bank)) s (fired-in due-now i (c .bank) (s .values)) (fired-shadows due-now i (c .bank) (s .shadows))
+write-shaped (Counter i) word lines c s = counting-shaped (λ j. eqb j i && due Software (c .switches) j) 1 c s
 write-shaped (Trace level) word lines c s =
     trigger-keeps Shaped false (oneLine lines) (fateOf false level c) (lineOf lines) word c s (λ k. s) (take-shaped false (lineOf lines) word c s)
 write-shaped (Resource level) word lines c s =
     trigger-keeps Shaped true (oneLine lines) (fateOf true level c) (lineOf lines) word c s (λ k. s) (take-shaped true (lineOf lines) word c s)
-
-counting-shaped : (f : ℕ → Bool) (k : ℕ) (c : Chip) → Shaped c → Shaped (withBank (counting f k (c .bank)) c)
-counting-shaped f k c s = shaped-bank c (counting f k (c .bank)) s (counting-in f k (c .bank) (s .values)) (s .shadows)
 
 pub keeps-shaped : (op : Operation) (c : Chip) → Shaped c → Shaped (step op c .chip)
 unfolding write read timestampTicks nodeTicks externalEvents send sendInto sendMany

@@ -1,16 +1,17 @@
--- Laws of the bits of a number: of what two numbers have in common, of the bits that a number lacks, and that the mask of due events is
--- the table of MUX fields, bit by bit. Assumes nothing.
-use Prim.Native.Nat.{ℕ, zero, suc, _+_, _-_, _*_, _/_, _%_, _^_, _≤_, _<_, min}
-use native.Mathlib.Nat.{mod-lt, zero-lt-suc, div-one, div-div-eq-div-mul, pow-suc, pow-succ', min-le-left, lt-of-le-of-lt, lt-of-lt-of-le, div-eq-of-lt, not-suc-le-zero, le-of-suc-le-suc}
+-- Laws of the bits of a number: of what two numbers have in common or together, of the bits that a number lacks, of its low bits. By them
+-- the switches are what document 01 says of each counter: the mask of due events is the table of MUX fields, and a write enables or
+-- disables the counters of the set bits and sets the two bits of each MUX field. Assumes nothing.
+use Prim.Native.Nat.{ℕ, zero, suc, _+_, _-_, _*_, _/_, _%_, _^_, _≤_, _<_, min, max}
+use native.Mathlib.Nat.{mod-lt, zero-lt-suc, div-one, pow-suc, lt-of-lt-of-le, div-eq-of-lt, not-suc-le-zero, le-of-suc-le-suc}
+use native.Mathlib.Numerals.{one-add}
 use native.Mathlib.Omega.{arith}
-use mathlib.Core.Path.{_≡_, refl, sym, ap, ap₂, _∙_, subst}
-use mathlib.Core.Bool.{Bool, true, false, not, _&&_}
-use lib.Arith.{digits-mod}
-use lib.Bits.{bitAnd, and-shr, and-step}
+use mathlib.Core.Path.{_≡_, refl, sym, ap, ap₂, _∙_}
+use mathlib.Core.Bool.{Bool, false, not, _&&_, _||_}
+use lib.Bits.{bitAnd, bitOr, and-shr, and-step, or-shr, or-step}
 use lib.Dec.{eqb}
-use lib.Pow.{pow-mono}
+use lib.Pow.{field, mod-mod-pow, pow-mono, pow-pos, shr-shr}
 use Rattle.counters.specs.Bank.{bit}
-use Rattle.counters.specs.Due.{due, dueMask}
+use Rattle.counters.specs.Due.{disabling, due, dueMask, enabling, selecting}
 use Rattle.counters.specs.declared.switches.Switches.{Switches}
 use Rattle.counters.specs.declared.switches.Kind.{Kind}
 use Rattle.counters.specs.declared.switches.Kind.the-variants.{Slow, External, Software, Node}
@@ -21,24 +22,43 @@ zero-one P p q zero h = p
 zero-one P p q (suc zero) h = q
 zero-one P p q (suc (suc n)) h = absurd (not-suc-le-zero (le-of-suc-le-suc (le-of-suc-le-suc h)))
 
--- the next bit is that of half the number
-half-bit : (x i : ℕ) → x / 2 ^ suc i ≡ x / 2 / 2 ^ i
-half-bit x i = ap (λ (d : ℕ). x / d) (pow-succ' 2 i) ∙ sym (div-div-eq-div-mul x 2 (2 ^ i))
+both-zero-one : (P : ℕ → ℕ → Type 0) → P 0 0 → P 0 1 → P 1 0 → P 1 1 → (a b : ℕ) → a < 2 → b < 2 → P a b
+both-zero-one P p q r t a b h k = zero-one (λ (n : ℕ). P n b) (zero-one (P 0) p q b k) (zero-one (P 1) r t b k) a h
 
-digit-and : (a b : ℕ) → bitAnd a b % 2 ≡ min (a % 2) (b % 2)
-digit-and a b =
-    ap (λ (n : ℕ). n % 2) (and-step a b)
-    ∙ digits-mod (bitAnd (a / 2) (b / 2)) (lt-of-le-of-lt (min-le-left (a % 2) (b % 2)) (mod-lt a (zero-lt-suc 1)))
-
-both-one : (a b : ℕ) → a < 2 → b < 2 → eqb (min a b) 1 ≡ (eqb a 1 && eqb b 1)
-both-one a b h k = zero-one (λ (n : ℕ). eqb (min n b) 1 ≡ (eqb n 1 && eqb b 1)) (zero-one (λ (m : ℕ). eqb (min 0 m) 1 ≡ false) refl refl b k) (zero-one (λ (m : ℕ). eqb (min 1 m) 1 ≡ eqb m 1) refl refl b k) a h
+-- an operation that does f to two digits does g to two bits
+module _ (op f : ℕ → ℕ → ℕ) (g : Bool → Bool → Bool)
+    (shr : (a b k : ℕ) → op a b / 2 ^ k ≡ op (a / 2 ^ k) (b / 2 ^ k))
+    (digit : (a b : ℕ) → op a b % 2 ≡ f (a % 2) (b % 2))
+    (table : (a b : ℕ) → a < 2 → b < 2 → eqb (f a b) 1 ≡ g (eqb a 1) (eqb b 1)) where
+  bit-by-bit : (a b i : ℕ) → bit (op a b) i ≡ g (bit a i) (bit b i)
+  bit-by-bit a b i =
+      ap (λ (n : ℕ). eqb (n % 2) 1) (shr a b i)
+      ∙ ap (λ (n : ℕ). eqb n 1) (digit (a / 2 ^ i) (b / 2 ^ i))
+      ∙ table (a / 2 ^ i % 2) (b / 2 ^ i % 2) (mod-lt (a / 2 ^ i) (zero-lt-suc 1)) (mod-lt (b / 2 ^ i) (zero-lt-suc 1))
 
 -- what two numbers have in common
 pub bit-and : (a b i : ℕ) → bit (bitAnd a b) i ≡ (bit a i && bit b i)
-bit-and a b i =
-    ap (λ (n : ℕ). eqb (n % 2) 1) (and-shr a b i)
-    ∙ ap (λ (n : ℕ). eqb n 1) (digit-and (a / 2 ^ i) (b / 2 ^ i))
-    ∙ both-one (a / 2 ^ i % 2) (b / 2 ^ i % 2) (mod-lt (a / 2 ^ i) (zero-lt-suc 1)) (mod-lt (b / 2 ^ i) (zero-lt-suc 1))
+bit-and =
+    bit-by-bit bitAnd min _&&_ and-shr (λ a b. omega (arith, and-step a b))
+    (both-zero-one (λ (a b : ℕ). eqb (min a b) 1 ≡ (eqb a 1 && eqb b 1)) refl refl refl refl)
+
+-- what they have together
+pub bit-or : (a b i : ℕ) → bit (bitOr a b) i ≡ (bit a i || bit b i)
+bit-or =
+    bit-by-bit bitOr max _||_ or-shr (λ a b. omega (arith, or-step a b))
+    (both-zero-one (λ (a b : ℕ). eqb (max a b) 1 ≡ (eqb a 1 || eqb b 1)) refl refl refl refl)
+
+-- the low k bits are the number's own
+pub bit-mod : (k x i : ℕ) → i < k → bit (x % 2 ^ k) i ≡ bit x i
+bit-mod k x i h =
+    let j : ℕ = k - suc i in
+    let places : k ≡ j + 1 + i = omega arith in
+    ap (λ (n : ℕ). eqb (n % 2) 1) (ap (λ (n : ℕ). x % 2 ^ n / 2 ^ i) places ∙ field x (j + 1) i)
+    ∙ ap (λ (n : ℕ). eqb n 1) (mod-mod-pow (x / 2 ^ i) j 1)
+
+-- the next bit is that of half the number
+half-bit : (x i : ℕ) → x / 2 ^ suc i ≡ x / 2 / 2 ^ i
+half-bit x i = ap (λ (n : ℕ). x / 2 ^ n) (sym (one-add i)) ∙ sym (shr-shr x 1 i)
 
 -- the bits that a number of k bits lacks
 other-bits : (k x i : ℕ) → i < k → x < 2 ^ k → (2 ^ k - 1 - x) / 2 ^ i % 2 ≡ 1 - x / 2 ^ i % 2
@@ -82,3 +102,23 @@ mask-due Software s i h p q =
 mask-due Node s i h p q =
     bit-and (s .enabled) (bitAnd (s .high) (s .low)) i
     ∙ ap (λ (b : Bool). bit (s .enabled) i && b) (bit-and (s .high) (s .low) i)
+
+-- ---- what a write does to each counter: bit i is counter i's
+
+module _ (d : ℕ) (s : Switches) (i : ℕ) (h : i < 16) where
+  -- "enable the counters of the set bits"
+  pub enabled-bit : bit (enabling d s .enabled) i ≡ (bit (s .enabled) i || bit d i)
+  enabled-bit = bit-or (s .enabled) (d % 2 ^ 16) i ∙ ap (λ (b : Bool). bit (s .enabled) i || b) (bit-mod 16 d i h)
+
+  -- "disable the counters of the set bits"
+  pub disabled-bit : bit (disabling d s .enabled) i ≡ (bit (s .enabled) i && not (bit d i))
+  disabled-bit =
+      bit-and (s .enabled) (2 ^ 16 - 1 - d % 2 ^ 16) i
+      ∙ ap (λ (b : Bool). bit (s .enabled) i && b) (bit-other 16 (d % 2 ^ 16) i h (mod-lt d (pow-pos 16)) ∙ ap not (bit-mod 16 d i h))
+
+  -- "Counter i has MUX field bit 32+i (high), bit i (low)"
+  pub low-bit : bit (selecting d s .low) i ≡ bit d i
+  low-bit = bit-mod 16 d i h
+
+  pub high-bit : bit (selecting d s .high) i ≡ bit d (32 + i)
+  high-bit = bit-mod 16 (d / 2 ^ 32) i h ∙ ap (λ (n : ℕ). eqb (n % 2) 1) (shr-shr d 32 i)

@@ -1,24 +1,19 @@
 -- Counting twice is counting the sum, and counting nothing changes no number of 32 bits: place by place. Assumes nothing.
-use Prim.Native.Nat.{ℕ, zero, suc, _+_, _^_, _<_}
+use Prim.Native.Nat.{ℕ, suc, _+_, _^_, _<_}
 use native.Mathlib.Omega.{arith}
-use mathlib.Core.Path.{_≡_, refl, ap, ap₂, _∙_}
+use mathlib.Core.Path.{_≡_, refl, ap, _∙_}
 use mathlib.Core.Bool.{Bool, true, false, cond}
 use mathlib.Core.List.{List, [], _∷_}
 use lib.ListN.{getD}
 use Rattle.counters.specs.Bank.{counting, each, grown}
 use Rattle.counters.specs.declared.bank.Bank.{Bank}
+use Rattle.counters.proofs.EachLaws.{each-is}
 
 -- a function of place and number after another
 pub each-each : (f g : ℕ → ℕ → ℕ) (i : ℕ) (vs : List ℕ) → each g i (each f i vs) ≡ each (λ j v. g j (f j v)) i vs
 unfolding each
 each-each f g i [] = refl
 each-each f g i (v ∷ vs) = ap (λ (l : List ℕ). g i (f i v) ∷ l) (each-each f g (suc i) vs)
-
--- one that leaves numbers below a bound, on a list of them
-pub each-still : (f : ℕ → ℕ → ℕ) (m i : ℕ) (vs : List ℕ) → ((j v : ℕ) → v < m → f j v ≡ v) → ((j : ℕ) → getD vs j 0 < m) → each f i vs ≡ vs
-unfolding each
-each-still f m i [] p h = refl
-each-still f m i (v ∷ vs) p h = ap₂ (λ (x : ℕ) (l : List ℕ). x ∷ l) (p i v (h zero)) (each-still f m (suc i) vs p (λ j. h (suc j)))
 
 pub grown-grown : (v a b : ℕ) → grown (grown v a) b ≡ grown v (a + b)
 grown-grown v a b = omega arith
@@ -41,4 +36,4 @@ counting-twice f a b x =
 
 pub counting-none : (f : ℕ → Bool) (x : Bank) → ((i : ℕ) → getD (x .values) i 0 < 2 ^ 32) → counting f 0 x ≡ x
 counting-none f x h =
-    λ t. record { values = each-still (λ i v. cond (f i) (grown v 0) v) (2 ^ 32) 0 (x .values) (λ j v p. grown-none (f j) v p) h t; shadows = x .shadows }
+    λ t. record { values = each-is (λ i v. cond (f i) (grown v 0) v) (x .values) (x .values) refl (λ j p. grown-none (f j) (getD (x .values) j 0) (h j)) t; shadows = x .shadows }

@@ -3,7 +3,6 @@ use Prim.Native.Nat.{ℕ, suc, _+_, _/_, _%_, _^_}
 use mathlib.Core.Bool.{Bool, cond}
 use mathlib.Core.List.{List, [], _∷_}
 use lib.Dec.{eqb}
-use lib.ListN.{getD, set}
 use Rattle.counters.specs.declared.bank.Bank.{Bank}
 
 -- bit i of x
@@ -22,10 +21,6 @@ each f i (v ∷ vs) = f i v ∷ each f (suc i) vs
 -- k events for each counter that f names
 abbrev pub counting : (ℕ → Bool) → ℕ → Bank → Bank
 counting f k b = record { values = each (λ i v. cond (f i) (grown v k) v) 0 (b .values); shadows = b .shadows }
-
--- one event for counter i
-abbrev pub bumped : ℕ → Bank → Bank
-bumped i b = record { values = set (b .values) i (grown (getD (b .values) i 0) 1); shadows = b .shadows }
 
 -- "clear the counters of the set bits"
 abbrev pub cleared : ℕ → Bank → Bank

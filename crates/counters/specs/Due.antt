@@ -1,9 +1,10 @@
 -- Document 01, "Counters", "External events" of "The chip's operations", and "Address map" 8, 11, 12 and 32 to 47: which counters an
 -- event is due to.
 use Prim.Native.Nat.{ℕ, _+_, _-_, _*_, _/_, _%_, _^_}
-use mathlib.Core.Bool.{Bool, cond, not, _&&_}
+use mathlib.Core.Bool.{Bool, not, _&&_}
 use lib.Bits.{bitAnd, bitOr}
-use Rattle.counters.specs.Bank.{bit, bumped, counting}
+use lib.Dec.{eqb}
+use Rattle.counters.specs.Bank.{bit, counting}
 use Rattle.counters.specs.declared.bank.Bank.{Bank}
 use Rattle.counters.specs.declared.switches.Switches.{Switches}
 use Rattle.counters.specs.declared.switches.Kind.{Kind}
@@ -37,7 +38,7 @@ signalled mask s b = counting (λ i. bit mask i && due External s i) 1 b
 
 -- "software event for counter 0..15"
 abbrev pub fired : ℕ → Switches → Bank → Bank
-fired i s b = cond (due Software s i) (bumped i b) b
+fired i s b = counting (λ j. eqb j i && due Software s j) 1 b
 
 -- "enable the counters of the set bits"; "only bits 0 to 15 act"
 abbrev pub enabling : ℕ → Switches → Switches

@@ -3,8 +3,9 @@ use super::switches::Kind;
 use super::switches::Switches;
 ghost use mathlib.Core.Path.{_≡_};
 ghost use mathlib.Core.Bool.{cond};
+ghost use lib.Dec.{eqb};
 ghost use lib.ListN.{getD};
-ghost use Rattle.counters.specs.Bank.{bit, bumped, cleared, copied, counting, each, grown};
+ghost use Rattle.counters.specs.Bank.{bit, cleared, copied, counting, each, grown};
 ghost use Rattle.counters.specs.Due.{fired, signalled, ticked};
 
 pub struct Bank {
@@ -49,7 +50,7 @@ impl Bank {
 
     // One counter grows by one.
     fn bumped(mut self, index: usize) -> Bank
-        ensures { λ r. ⌜ r ≡ bumped index self ⌝ }
+        ensures { λ r. ⌜ r ≡ counting (λ j. eqb j index) 1 self ⌝ }
     {
         if index < 16 {
             let value = self.values[index];

@@ -1,11 +1,11 @@
 -- Counters and the ledger's events: each counter is its events modulo 2^32, and stays so whatever happens. Assumes nothing.
-use Prim.Native.Nat.{ℕ, zero, suc, _+_, _-_, _*_, _/_, _%_, _^_, _≤_, _<_}
+use Prim.Native.Nat.{ℕ, suc, _+_, _-_, _*_, _/_, _%_, _^_, _≤_, _<_}
 use native.Mathlib.Nat.{mod-add-mod}
 use native.Mathlib.Omega.{arith}
-use mathlib.Core.Path.{_≡_, refl, sym, ap, ap₂, _∙_, subst}
+use mathlib.Core.Path.{_≡_, refl, sym, ap₂, subst}
 use mathlib.Core.Bool.{Bool, true, false, cond}
 use mathlib.Core.List.{List, [], _∷_, map}
-use lib.ListN.{getD, set, List·getD-map}
+use lib.ListN.{getD, List·getD-map}
 use Rattle.counters.specs.Bank.{each, grown}
 
 -- a number modulo 2^32
@@ -21,11 +21,6 @@ pub map-each : (g : ℕ → ℕ) (f f′ : ℕ → ℕ → ℕ) (i : ℕ) (vs : 
 unfolding each
 map-each g f f′ i [] h = refl
 map-each g f f′ i (v ∷ vs) h = ap₂ (λ (x : ℕ) (l : List ℕ). x ∷ l) (h i v) (map-each g f f′ (suc i) vs h)
-
-pub map-set : (g : ℕ → ℕ) (vs : List ℕ) (i v : ℕ) → map g (set vs i v) ≡ set (map g vs) i (g v)
-map-set g [] i v = refl
-map-set g (x ∷ vs) zero v = refl
-map-set g (x ∷ vs) (suc i) v = ap (λ (l : List ℕ). g x ∷ l) (map-set g vs i v)
 
 -- k events for the counters that f names
 pub wrapped-events : (f : ℕ → Bool) (k : ℕ) (vs : List ℕ) → map wrapped (each (λ i n. cond (f i) (n + k) n) 0 vs) ≡ each (λ i v. cond (f i) (grown v k) v) 0 (map wrapped vs)
@@ -43,14 +38,9 @@ wrapped-clear f vs = map-each wrapped (λ i n. cond (f i) 0 n) (λ i v. cond (f 
     go true v = refl
     go false v = refl
 
--- one counter's number, and one event for it
+-- one counter's number
 pub wrapped-at : (vs : List ℕ) (i : ℕ) → getD (map wrapped vs) i 0 ≡ wrapped (getD vs i 0)
 wrapped-at vs i = List·getD-map wrapped vs i 0
-
-pub wrapped-bump : (vs : List ℕ) (i : ℕ) → map wrapped (set vs i (getD vs i 0 + 1)) ≡ set (map wrapped vs) i (grown (getD (map wrapped vs) i 0) 1)
-wrapped-bump vs i =
-    map-set wrapped vs i (getD vs i 0 + 1)
-    ∙ ap (set (map wrapped vs) i) (wrapped-grown (getD vs i 0) 1 ∙ ap (λ (n : ℕ). grown n 1) (sym (wrapped-at vs i)))
 
 -- the slow clock: the events among k ticks, from the ticks so far or from the phase
 pub slow-same : (ticks k : ℕ) → (ticks + k) / 10 - ticks / 10 ≡ (ticks % 10 + k) / 10

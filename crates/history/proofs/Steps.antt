@@ -7,12 +7,11 @@ use mathlib.Core.Path.{_≡_, refl, sym, ap, ap₂, _∙_, subst}
 use mathlib.Core.Bool.{Bool, true, false, cond, _&&_}
 use mathlib.Core.List.{List, [], _∷_, _++_, map}
 use lib.Dec.{eqb}
-use lib.ListN.{length, take, drop, getD, set, replicate, length-set, length-drop}
+use lib.ListN.{length, take, drop, getD, replicate, length-drop}
 use lib.Seq.{drop-cons, length-take-le}
 use Rattle.samples.specs.declared.sample.Sample.{Sample}
 use borrow.Author.Tests.{eq-eqb, ne-eqb, eqb-true, eqb-false}
-use Rattle.counters.specs.Bank.{bit, bumped, copied, each, grown}
-use Rattle.counters.specs.Due.{due, fired}
+use Rattle.counters.specs.Bank.{bit, copied, each, grown}
 use Rattle.counters.specs.declared.bank.Bank.{Bank}
 use Rattle.counters.specs.declared.switches.Kind.the-variants.{Slow, External, Software, Node}
 use Rattle.counters.specs.declared.switches.Switches.{Switches}
@@ -32,8 +31,8 @@ use Rattle.chip.specs.declared.place.Place.the-variants.{Beyond, Nowhere, Reset
 use Rattle.chip.specs.declared.reply.Reply.the-variants.{Busy, NoWord, Wait}
 use Rattle.history.specs.Ledger.{Ledger, Told, dueTo, happened, held, left, readIn, resetAt, sentMore, slowIn, tells, toldOf, waitedOne, withErrors, withEvents, withStream, withTicks, written}
 use Rattle.history.specs.Stream.{anyHeld, isFull, totalOf, wordsOfAll}
-use Rattle.history.proofs.Agrees.{Agrees, Good, Kept, chipFor, controlOf, kept-guarded, switchesOf}
-use Rattle.history.proofs.CountLaws.{phase-same, slow-same, wrapped, wrapped-at, wrapped-bump, wrapped-clear, wrapped-events}
+use Rattle.history.proofs.Agrees.{Agrees, Good, Kept, chipFor, controlOf, kept-guarded}
+use Rattle.history.proofs.CountLaws.{phase-same, slow-same, wrapped, wrapped-at, wrapped-clear, wrapped-events}
 use Rattle.history.proofs.HeldLaws.{Sixteen, words-total}
 use Rattle.history.proofs.HoldsLaws.{Holds, holds-advanced, holds-busy, holds-copied, holds-empty, holds-full, holds-none, holds-some, next-is}
 use Rattle.history.proofs.Triggers.{told, trigger-kept}
@@ -102,17 +101,12 @@ module _ (l : Ledger) (q : Queue) (sh : List ℕ) (g : Good l q sh) where
         value = refl;
       }
 
-  -- ---- writes
+  happened-kept : (f : ℕ → Bool) (k : ℕ) → Kept (tells 0 0 (happened f k l)) (done 0 (withBank (record { values = each (λ i v. cond (f i) (grown v k) v) 0 (map wrapped (l .events)); shadows = sh }) (chipFor l q sh)))
+  happened-kept f k =
+      other-events (each (λ i n. cond (f i) (n + k) n) 0 (l .events)) _ (each-length (λ i n. cond (f i) (n + k) n) 0 (l .events) ∙ g .events)
+      (λ j. record { values = sym (wrapped-events f k (l .events)) j; shadows = sh })
 
-  fired-kept : (i : ℕ) → Kept (tells 0 0 (cond (dueTo Software (l .select) i) (withEvents (set (l .events) i (getD (l .events) i 0 + 1)) l) l)) (done 0 (withBank (fired i (switchesOf l) (record { values = map wrapped (l .events); shadows = sh })) (chipFor l q sh)))
-  fired-kept i = go (dueTo Software (l .select) i)
-    where
-      go : (b : Bool) → Kept (tells 0 0 (cond b (withEvents (set (l .events) i (getD (l .events) i 0 + 1)) l) l)) (done 0 (withBank (cond b (bumped i (record { values = map wrapped (l .events); shadows = sh })) (record { values = map wrapped (l .events); shadows = sh })) (chipFor l q sh)))
-      go true =
-          other-events (set (l .events) i (getD (l .events) i 0 + 1)) (bumped i (record { values = map wrapped (l .events); shadows = sh }))
-          (length-set (l .events) i (getD (l .events) i 0 + 1) ∙ g .events)
-          (λ k. record { values = sym (wrapped-bump (l .events) i) k; shadows = sh })
-      go false = other l (chipFor l q sh) refl refl refl refl
+  -- ---- writes
 
   write-kept : (p : Place) (word lines : ℕ) → Kept (written p word lines l) (writeAt p word lines (chipFor l q sh))
   unfolding written writeAt
@@ -131,7 +125,7 @@ module _ (l : Ledger) (q : Queue) (sh : List ℕ) (g : Good l q sh) where
   write-kept Enable word lines = other _ _ refl refl refl refl
   write-kept Disable word lines = other _ _ refl refl refl refl
   write-kept (Source i) word lines = other _ _ refl refl refl refl
-  write-kept (Counter i) word lines = fired-kept i
+  write-kept (Counter i) word lines = happened-kept (λ j. eqb j i && dueTo Software (l .select) j) 1
   write-kept (Trace level) word lines = trigger-kept l q sh g false level word lines
   write-kept (Resource level) word lines = trigger-kept l q sh g true level word lines
 
@@ -193,11 +187,6 @@ module _ (l : Ledger) (q : Queue) (sh : List ℕ) (g : Good l q sh) where
   read-kept (Resource level) = same 3 0 _ refl refl refl
 
   -- ---- ticks and events
-
-  happened-kept : (f : ℕ → Bool) (k : ℕ) → Kept (tells 0 0 (happened f k l)) (done 0 (withBank (record { values = each (λ i v. cond (f i) (grown v k) v) 0 (map wrapped (l .events)); shadows = sh }) (chipFor l q sh)))
-  happened-kept f k =
-      other-events (each (λ i n. cond (f i) (n + k) n) 0 (l .events)) _ (each-length (λ i n. cond (f i) (n + k) n) 0 (l .events) ∙ g .events)
-      (λ j. record { values = sym (wrapped-events f k (l .events)) j; shadows = sh })
 
   ticks-kept : (k : ℕ) → Kept (tells 0 0 (withTicks k (happened (dueTo Slow (l .select)) (slowIn (l .ticks) k) l))) (done 0 (afterTicks k (chipFor l q sh)))
   ticks-kept k =

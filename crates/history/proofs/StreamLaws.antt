@@ -7,7 +7,7 @@ use mathlib.Core.Path.{_≡_, refl, sym, ap, ap₂, _∙_, subst}
 use mathlib.Core.Bool.{Bool, true, false, cond, false≢true}
 use mathlib.Core.List.{List, [], _∷_, _++_, append-nil}
 use lib.Dec.{eqb, leb, ltb}
-use lib.ListN.{length, take, drop, getD, set, replicate, length-drop, length-replicate, drop-of-length-le}
+use lib.ListN.{length, take, drop, getD, replicate, length-drop, length-replicate, drop-of-length-le}
 use lib.Seq.{drop-cons, take-add, take-append-le, take-at, take-suc, length-take-le}
 use borrow.Author.Tests.{ne-eqb, eqb-true, eqb-false, leb-true}
 use Rattle.samples.specs.Layout.{firstChip, resource, sampleLength, sampleWords}
@@ -20,10 +20,9 @@ use Rattle.chip.specs.Operation.{Operation, opReset, opWrite, opRead, opTicks, 
 use Rattle.chip.specs.Place.{placeOf, registerOf}
 use Rattle.chip.specs.Reply.{replyNumber}
 use Rattle.chip.specs.declared.chip.Chip.{Chip}
-use Rattle.counters.specs.declared.switches.Kind.the-variants.{Software}
 use Rattle.chip.specs.declared.place.Place.{Place}
 use Rattle.chip.specs.declared.place.Place.the-variants.{Beyond, Nowhere, Reset, Csr, Timestamp, Filter, Waits, Overruns, Mux, Clear, Enable, Disable, Source, Counter, Trace, Resource}
-use Rattle.history.specs.Ledger.{Ledger, Told, byFate, dueTo, fateIn, held, left, readIn, sampleIn, sentMore, tells, toldOf, triggered, waitedOne, withErrors, withEvents, written}
+use Rattle.history.specs.Ledger.{Ledger, Told, byFate, fateIn, held, left, readIn, sampleIn, sentMore, tells, toldOf, triggered, waitedOne, withErrors, written}
 use Rattle.history.specs.Run.{comeWithin, streamAfter}
 use Rattle.history.specs.Stream.{anyHeld, heldOf, lengthOf, totalOf, wordsOfAll}
 use Rattle.chip.proofs.AddressLaws.{place-test}
@@ -91,11 +90,7 @@ write-stream Clear word lines l e h = refl
 write-stream Enable word lines l e h = refl
 write-stream Disable word lines l e h = refl
 write-stream (Source i) word lines l e h = refl
-write-stream (Counter i) word lines l e h = go (dueTo Software (l .select) i)
-  where
-    go : (b : Bool) → take (cond b (withEvents (set (l .events) i (getD (l .events) i 0 + 1)) l) l .sent) (wordsOfAll (cond b (withEvents (set (l .events) i (getD (l .events) i 0 + 1)) l) l .taken)) ≡ take (l .sent) (wordsOfAll (l .taken))
-    go true = refl
-    go false = refl
+write-stream (Counter i) word lines l e h = refl
 write-stream (Trace level) word lines l e h = trigger-stream false level word lines l h
 write-stream (Resource level) word lines l e h = trigger-stream true level word lines l h
 

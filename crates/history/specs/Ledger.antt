@@ -206,8 +206,7 @@ written Disable word lines l =
     let s = l .select in
     tells 0 0 (withSelect (record { enabled = bitAnd (s .enabled) (2 ^ 16 - 1 - word % 2 ^ 16); low = s .low; high = s .high }) l)
 written (Source i) word lines l = tells 0 0 (withSources (set (l .sources) i (word % 2 ^ 32)) l)
-written (Counter i) word lines l =
-    tells 0 0 (cond (dueTo Software (l .select) i) (withEvents (set (l .events) i (getD (l .events) i 0 + 1)) l) l)
+written (Counter i) word lines l = tells 0 0 (happened (λ j. eqb j i && dueTo Software (l .select) j) 1 l)
 written (Trace level) word lines l = triggered false level word lines l
 written (Resource level) word lines l = triggered true level word lines l
 

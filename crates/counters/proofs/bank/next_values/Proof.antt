@@ -5,7 +5,6 @@ use native.Mathlib.Omega.{arith}
 use native.Mathlib.Numerals.{add-one}
 use mathlib.Core.Path.{_≡_, refl, ap, _∙_}
 use mathlib.Core.Bool.{Bool, cond}
-use lib.ListN.{length}
 use Rattle.counters.specs.Bank.{bit, grown}
 use Rattle.counters.proofs.EachLaws.{turned, turn, turned-all}
 use Rattle.counters.proofs.bank.next_values.Statement.{statement}

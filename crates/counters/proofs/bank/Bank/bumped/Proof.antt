@@ -1,14 +1,12 @@
--- `counters::bank::Bank::bumped` meets its contract: past the sixteenth nothing is stored, and `set` changes nothing there.
+-- `counters::bank::Bank::bumped` meets its contract: the store is one counter's event, and past the sixteenth nothing is stored or counted.
 -- Assumes nothing.
 use borrow.Author.Needs.{needs}
-use Prim.Native.Nat.{ℕ}
-use mathlib.Core.Path.{_≡_, sym, ap}
-use mathlib.Core.List.{List}
+use mathlib.Core.Path.{_≡_, ap, sym, _∙_}
 use lib.ListN.{length, getD, set}
 use native.Mathlib.Omega.{arith}
 use lib.Seq.{set-out}
 use Rattle.counters.specs.Bank.{grown}
-use Rattle.counters.specs.declared.bank.Bank.{Bank}
+use Rattle.counters.proofs.EachLaws.{store-each}
 use Rattle.counters.proofs.bank.Bank.bumped.Statement.{statement}
 use Rattle.counters.proofs.bank.Bank.bumped.Tie as tie
 
@@ -30,13 +28,14 @@ element-write-self c = search needs
 returns : tie.Need-returns
 returns c =
     let a = c .before .before .before .args in
-    λ i. record { values = set (a .t1 .values) (a .index) (c .wrapping-add-u32 .ensures i); shadows = a .t1 .shadows }
+    let next = ap (set (a .t1 .values) (a .index)) (c .wrapping-add-u32 .ensures) ∙ store-each (λ v. grown v 1) (a .index) (a .t1 .values) in
+    λ i. record { values = next i; shadows = a .t1 .shadows }
 
 returns-2 : tie.Need-returns-2
 returns-2 c =
     let a = c .before .args in
     let sixteen : length (a .t1 .values) ≡ 16 = search needs in
-    let same = sym (set-out (a .t1 .values) (a .index) (grown (getD (a .t1 .values) (a .index) 0) 1) (omega arith)) in
+    let same = sym (set-out (a .t1 .values) (a .index) (grown (getD (a .t1 .values) (a .index) 0) 1) (omega arith)) ∙ store-each (λ v. grown v 1) (a .index) (a .t1 .values) in
     λ i. record { values = same i; shadows = a .t1 .shadows }
 
 pub bumped-spec : {M : Type 1} → statement M

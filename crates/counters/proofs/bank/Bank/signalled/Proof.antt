@@ -1,8 +1,8 @@
 -- `counters::bank::Bank::signalled` meets its contract: the mask that is left has a bit for each counter that was signalled and that the event is due to. Assumes nothing.
 use borrow.Author.Needs.{needs}
-use Prim.Native.Nat.{ℕ, _<_}
+use Prim.Native.Nat.{ℕ}
 use native.Mathlib.Omega.{arith}
-use mathlib.Core.Path.{_≡_, ap, sym, _∙_}
+use mathlib.Core.Path.{_≡_, ap, _∙_}
 use mathlib.Core.Bool.{Bool, _&&_}
 use lib.Bits.{bitAnd}
 use lib.ListN.{length}

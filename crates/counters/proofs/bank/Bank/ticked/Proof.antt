@@ -1,15 +1,12 @@
 -- `counters::bank::Bank::ticked` meets its contract: the mask has a bit for each counter that the events are due to. Assumes nothing.
 use borrow.Author.Needs.{needs}
-use Prim.Native.Nat.{ℕ, _<_}
+use Prim.Native.Nat.{ℕ}
 use native.Mathlib.Omega.{arith}
-use mathlib.Core.Path.{_≡_, ap, sym, _∙_}
-use mathlib.Core.Bool.{Bool, _&&_}
-use lib.Bits.{bitAnd}
+use mathlib.Core.Path.{_≡_, ap, _∙_}
 use lib.ListN.{length}
 use Rattle.counters.specs.Bank.{bit, counting}
 use Rattle.counters.specs.Due.{due, dueMask}
-use Rattle.counters.specs.declared.switches.Kind.the-variants.{External}
-use Rattle.counters.proofs.BitLaws.{bit-and, mask-due}
+use Rattle.counters.proofs.BitLaws.{mask-due}
 use Rattle.counters.proofs.EachLaws.{counting-same}
 use Rattle.counters.proofs.bank.Bank.ticked.Statement.{statement}
 use Rattle.counters.proofs.bank.Bank.ticked.Tie as tie
