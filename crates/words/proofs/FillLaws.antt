@@ -11,12 +11,6 @@ use lib.Seq.{paste-suc, take-length, length-take-le}
 pub fill-suc : (ws out : List ℕ) (i : ℕ) → i < length ws → i < length out → set (take i ws ++ drop i out) i (getD ws i 0) ≡ take (suc i) ws ++ drop (suc i) out
 fill-suc ws out i h k = simp zero-add at (paste-suc out 0 ws i 0 (rw zero-add k) h)
 
-pub fill-length : (ws out : List ℕ) (i : ℕ) → i ≤ length ws → i ≤ length out → length (take i ws ++ drop i out) ≡ length out
-fill-length ws out i h k =
-    let a : length (take i ws) ≡ i = length-take-le i ws h in
-    let b : length (drop i out) ≡ length out - i = length-drop i out in
-    length-append (take i ws) (drop i out) ∙ omega arith
-
 -- all the words
 pub fill-all : (ws out : List ℕ) (n : ℕ) → length ws ≡ n → take n ws ++ drop n out ≡ ws ++ drop n out
 fill-all ws out n e = subst (λ (k : ℕ). take k ws ++ drop n out ≡ ws ++ drop n out) e (ap (λ (l : List ℕ). l ++ drop n out) (take-length ws))
