@@ -4,7 +4,7 @@ use Prim.Native.Nat.{ℕ, zero, suc, _+_, _-_, _*_, _^_, _≤_, _<_}
 use native.Mathlib.Nat.{mod-lt, zero-lt-suc, lt-of-lt-of-le, pow-le-pow-right, le-of-suc-le-suc, suc-ne-zero}
 use native.Mathlib.Omega.{arith}
 use mathlib.Core.Path.{_≡_, refl, sym, ap, ap₂, _∙_, subst}
-use mathlib.Core.Bool.{Bool, true, false, cond, _&&_, false≢true}
+use mathlib.Core.Bool.{Bool, true, false, cond, not, _&&_, false≢true}
 use mathlib.Core.List.{List, [], _∷_, map}
 use lib.Dec.{eqb, leb}
 use lib.ListN.{length, getD, take, drop, replicate, length-take, List·getD-map}
@@ -23,7 +23,7 @@ use Rattle.samples.specs.declared.reader.Answer.the-variants.{Good, Unfi
 -- a word's fault by what its tests say: too large, odd, a bad header, the last place, the mark
 abbrev pub faultBy : Bool → Bool → Bool → Bool → Bool → Answer
 faultBy large odd header last mark =
-    cond large TooLarge (cond odd (cond header Header (cond last (cond mark Good Mark) (cond mark Mark Good))) Parity)
+    cond large TooLarge (cond (not odd) Parity (cond header Header (cond last (cond mark Good Mark) (cond mark Mark Good))))
 
 pub fault-by : (n place w : ℕ) {large odd header last mark : Bool} → tooLarge w ≡ large → oddOnes w ≡ odd → (eqb place 0 && leb 32 (byteOf w)) ≡ header → eqb (suc place) n ≡ last → marked w ≡ mark → faultAt n place w ≡ faultBy large odd header last mark
 unfolding faultAt
