@@ -1,17 +1,11 @@
 -- Laws of the queue's definitions. Assumes nothing.
-use Prim.Native.Nat.{ℕ, zero, suc, _+_, _-_, _≤_, _<_, min}
+use Prim.Native.Nat.{ℕ, zero, suc, _≤_, _<_, min}
 use native.Mathlib.Nat.{suc-ne-zero, suc-inj, not-suc-le-zero, le-of-suc-le-suc, zero-min, min-zero, suc-min-suc}
-use native.Mathlib.Omega.{arith}
-use mathlib.Core.Path.{_≡_, refl, sym, ap, ap₂, _∙_, subst}
+use mathlib.Core.Path.{_≡_, refl, sym, ap, _∙_}
 use mathlib.Core.Bool.{Bool, true, false, cond, _||_, false≢true, or-assoc, or-comm}
 use mathlib.Core.List.{List, [], _∷_, _++_}
 use lib.ListN.{length, take, drop, getD, replicate}
-use lib.Seq.{take-suc}
-use Rattle.samples.specs.Layout.{firstChip, resource, sampleBytes, sampleLength, sampleWords}
-use Rattle.samples.specs.declared.sample.Sample.{Sample}
-use Rattle.samples.proofs.SampleLaws.{sample-length, sample-word}
-use Rattle.words.specs.Word.{wordOf}
-use lib.Dec.{eqb}
+use Rattle.samples.specs.Layout.{resource}
 use Rattle.queue.specs.Queue.{anyResource, heldSample, zeroHeld}
 use Rattle.queue.specs.declared.queue.Held.{Held}
 

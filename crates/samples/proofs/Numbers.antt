@@ -2,7 +2,7 @@
 -- between tests, so both ways. A part of a stream is in one of three cases, with three different answers: the first bad word decides; the
 -- words are good but too few, 20; as many as are wanted are good, a sample, whatever comes after. By cases on the tests, and by
 -- induction on the words. Assumes nothing.
-use Prim.Native.Nat.{ℕ, zero, suc, _+_, _≤_, _<_, suc-le-suc}
+use Prim.Native.Nat.{ℕ, suc, _+_, _≤_, _<_, suc-le-suc}
 use native.Mathlib.Nat.{add-zero, not-suc-le-zero, zero-add, zero-lt-suc}
 use native.Mathlib.Numerals.{add-one}
 use native.Mathlib.Omega.{arith}
@@ -20,7 +20,6 @@ use Rattle.samples.specs.Read.{answerNumber, faultAt, isGood, readPart, 
 use Rattle.samples.specs.declared.sample.Sample.{Sample}
 use Rattle.samples.specs.declared.reader.Answer.{Answer}
 use Rattle.samples.specs.declared.reader.Answer.the-variants.{Good, Unfinished, TooLarge, Parity, Header, Mark}
-use Rattle.samples.specs.declared.reader.Reading.{Reading}
 use Rattle.samples.specs.declared.writer.Written.{Written}
 use Rattle.samples.specs.declared.writer.Written.the-variants.{Short, Unfit, Words}
 use Rattle.samples.proofs.ReadLaws.{faultBy, scan-word}

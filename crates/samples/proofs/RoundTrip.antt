@@ -1,24 +1,23 @@
 -- What the theorems on writing and reading stand on: the scan of written words is good, and words whose scan is good are
 -- written ones. Assumes nothing.
-use Prim.Native.Nat.{ℕ, zero, suc, _+_, _-_, _*_, _^_, _≤_, _<_}
-use native.Mathlib.Nat.{suc-ne-zero, suc-inj, zero-lt-suc, zero-add, add-zero}
+use Prim.Native.Nat.{ℕ, zero, suc, _+_, _^_, _≤_, _<_}
+use native.Mathlib.Nat.{add-zero}
 use native.Mathlib.Omega.{arith}
-use mathlib.Core.Path.{_≡_, refl, sym, ap, ap₂, _∙_, subst}
-use mathlib.Core.Bool.{Bool, true, false, cond, _&&_, _||_, false≢true, and-false}
+use mathlib.Core.Path.{_≡_, refl, sym, ap, ap₂, _∙_}
+use mathlib.Core.Bool.{Bool, true, false, cond, _&&_, _||_, false≢true}
 use mathlib.Core.List.{List, [], _∷_, _++_, map, append-assoc, append-nil}
 use lib.Dec.{eqb, leb, ltb, eqb·suc-zero}
 use lib.ListN.{length, getD, take, drop, replicate, length-drop}
 use lib.Seq.{drop-at, take-add}
-use borrow.Author.Tests.{eq-eqb, ne-eqb, eqb-true, eqb-false, lt-ltb, lt-leb, leb-false, ltb-true}
+use borrow.Author.Tests.{eq-eqb, ne-eqb, eqb-true, ltb-true}
 use Rattle.words.specs.Bytes.{number}
-use Rattle.words.specs.Word.{wordOf, wordsOf, isLast, tooLarge, oddOnes, marked, byteOf}
+use Rattle.words.specs.Word.{wordOf, wordsOf, tooLarge, oddOnes, marked, byteOf}
 use Rattle.words.proofs.WordLaws.{word-small, word-odd, word-byte, word-marked, word-back}
 use Rattle.samples.specs.Layout.{Widths, fieldWidths, counterWidths, counterBytes, fieldBytes, sampleBytes, sampleLength, resource, spread, total}
 use Rattle.samples.specs.Write.{within, allZero, writable}
-use Rattle.samples.specs.Read.{faultAt, gather, isGood, orElse, sampleOf, scan}
+use Rattle.samples.specs.Read.{faultAt, gather, isGood, sampleOf, scan}
 use Rattle.samples.specs.declared.sample.Sample.{Sample}
-use Rattle.samples.specs.declared.reader.Answer.{Answer}
-use Rattle.samples.specs.declared.reader.Answer.the-variants.{Good, Unfinished, TooLarge, Parity, Header, Mark}
+use Rattle.samples.specs.declared.reader.Answer.the-variants.{Good}
 use Rattle.samples.proofs.Gather.{both-left, both-right, gather-spread, spread-gather}
 use Rattle.samples.proofs.ReadLaws.{faultBy, fault-by, drop-below, scan-first, scan-word}
 use Rattle.samples.proofs.SampleLaws.{fields-length}

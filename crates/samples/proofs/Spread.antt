@@ -1,17 +1,16 @@
 -- Laws of fields laid one after the other, over their widths: what stands at a place, how many bytes there are, and that each
 -- is below 256. Assumes nothing.
-use Prim.Native.Nat.{ℕ, zero, suc, _+_, _-_, _*_, _/_, _%_, _^_, _≤_, _<_, zero-le}
-use native.Mathlib.Nat.{zero-lt-suc, le-of-suc-le-suc, not-suc-le-zero, add-sub-of-le, zero-div, suc-ne-zero, suc-inj, div-eq-of-lt, mod-eq-of-lt, div-eq-sub-div, mod-eq-sub-mod}
+use Prim.Native.Nat.{ℕ, zero, suc, _+_, _-_, _/_, _%_, _≤_, _<_, zero-le}
+use native.Mathlib.Nat.{zero-lt-suc, add-sub-of-le, suc-ne-zero, suc-inj, div-eq-of-lt, mod-eq-of-lt, div-eq-sub-div, mod-eq-sub-mod}
 use native.Mathlib.Numerals.{add-one}
 use borrow.Author.Tests.{ltb-true, ltb-false}
 use lib.Dec.{ltb}
-use native.Mathlib.Omega.{arith}
 use mathlib.Core.Path.{_≡_, refl, sym, ap, ap₂, _∙_, subst}
-use mathlib.Core.Bool.{Bool, true, false, cond}
+use mathlib.Core.Bool.{Bool, true, false}
 use mathlib.Core.List.{List, [], _∷_, _++_}
-use lib.ListN.{length, getD, take, drop, replicate, List·getD-append, length-append}
+use lib.ListN.{length, getD, replicate, List·getD-append, length-append}
 use lib.Seq.{getD-append-add}
-use Rattle.words.specs.Bytes.{byteAt, lowBytes, number}
+use Rattle.words.specs.Bytes.{byteAt, lowBytes}
 use Rattle.words.proofs.ByteLaws.{byte-past, low-length, low-at, low-below}
 use Rattle.samples.specs.Layout.{spread, total}
 

@@ -1,9 +1,9 @@
 -- The law of the low bytes of a number, once, over how many bytes there are: each byte, their number, that each is below 256,
 -- the number they give back, and the bytes that the number gives back. Assumes nothing.
 use Prim.Native.Nat.{ℕ, zero, suc, _+_, _*_, _/_, _%_, _^_, _≤_, _<_}
-use native.Mathlib.Nat.{mod-lt, mod-one, mod-eq-of-lt, zero-lt-suc, pow-suc, pow-succ', div-div-eq-div-mul, div-eq-of-lt, div-one, le-of-suc-le-suc, not-suc-le-zero, one-le-pow, pow-le-pow-right, lt-of-lt-of-le, add-mul-div-left, add-mul-mod-self-left, suc-mul, mul-add, mul-assoc, add-assoc}
+use native.Mathlib.Nat.{mod-lt, mod-one, mod-eq-of-lt, zero-lt-suc, pow-suc, pow-succ', div-div-eq-div-mul, div-eq-of-lt, div-one, le-of-suc-le-suc, not-suc-le-zero, one-le-pow, pow-le-pow-right, lt-of-lt-of-le, add-mul-mod-self-left, suc-mul, mul-add, mul-assoc, add-assoc}
 use native.Mathlib.Omega.{arith}
-use mathlib.Core.Path.{_≡_, refl, sym, ap, ap₂, _∙_, subst}
+use mathlib.Core.Path.{_≡_, refl, sym, ap, ap₂, _∙_}
 use mathlib.Core.List.{List, [], _∷_, _++_}
 use lib.Arith.{mod-mul}
 use lib.Pow.{pow-add}

@@ -1,10 +1,10 @@
 -- `samples::reader::number_at` meets its contract: the sum is the number of the bytes from `left` on, so it has at most seven
 -- bytes before the last turn and fits. Assumes nothing.
 use borrow.Author.Needs.{needs}
-use Prim.Native.Nat.{ℕ, suc, _+_, _-_, _*_, _^_, _<_, _≤_}
+use Prim.Native.Nat.{ℕ, suc, _+_, _-_, _^_, _<_, _≤_}
 use native.Mathlib.Nat.{lt-of-lt-of-le, pow-le-pow-right, zero-lt-suc, sub-self, sub-zero, add-zero}
 use native.Mathlib.Omega.{arith}
-use mathlib.Core.Path.{_≡_, refl, sym, ap, _∙_, subst}
+use mathlib.Core.Path.{_≡_, sym, ap, _∙_, subst}
 use mathlib.Core.List.{map}
 use lib.ListN.{length, getD, take, drop, length-map, List·getD-map}
 use Rattle.words.specs.Bytes.{number}

@@ -2,7 +2,7 @@
 -- Assumes nothing.
 use borrow.Author.Needs.{needs}
 use native.Mathlib.Nat.{zero-lt-suc}
-use Prim.Native.Nat.{ℕ, _/_, _%_, zero-le}
+use Prim.Native.Nat.{ℕ, _%_, zero-le}
 use mathlib.Core.Path.{sym, ap, _∙_}
 use lib.ListN.{List·getD-eq-default}
 use Rattle.words.specs.Bytes.{byteAt}
