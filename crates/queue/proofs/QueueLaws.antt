@@ -1,17 +1,11 @@
 -- Laws of the queue's definitions. Assumes nothing.
-use Prim.Native.Nat.{ℕ, zero, suc, _+_, _-_, _≤_, _<_, min}
+use Prim.Native.Nat.{ℕ, zero, suc, _≤_, _<_, min}
 use native.Mathlib.Nat.{suc-ne-zero, suc-inj, not-suc-le-zero, le-of-suc-le-suc, zero-min, min-zero, suc-min-suc}
-use native.Mathlib.Omega.{arith}
-use mathlib.Core.Path.{_≡_, refl, sym, ap, ap₂, _∙_, subst}
-use mathlib.Core.Bool.{Bool, true, false, cond, _||_, false≢true}
+use mathlib.Core.Path.{_≡_, refl, sym, ap, _∙_}
+use mathlib.Core.Bool.{Bool, true, false, cond, _||_, false≢true, or-assoc, or-comm}
 use mathlib.Core.List.{List, [], _∷_, _++_}
 use lib.ListN.{length, take, drop, getD, replicate}
-use lib.Seq.{take-suc}
-use Rattle.samples.specs.Layout.{firstChip, resource, sampleBytes, sampleLength, sampleWords}
-use Rattle.samples.specs.declared.sample.Sample.{Sample}
-use Rattle.samples.proofs.SampleLaws.{sample-length, sample-word}
-use Rattle.words.specs.Word.{wordOf}
-use lib.Dec.{eqb}
+use Rattle.samples.specs.Layout.{resource}
 use Rattle.queue.specs.Queue.{anyResource, heldSample, zeroHeld}
 use Rattle.queue.specs.declared.queue.Held.{Held}
 
@@ -32,16 +26,10 @@ seven (a ∷ b ∷ c ∷ e ∷ f ∷ g ∷ h ∷ i ∷ j ∷ hs) d p = absurd (s
 pub any-suc : (hs : List Held) (i : ℕ) → i < length hs → anyResource (take (suc i) hs) ≡ (anyResource (take i hs) || resource (getD hs i zeroHeld .header))
 unfolding anyResource
 any-suc [] i h = absurd (not-suc-le-zero h)
-any-suc (x ∷ hs) zero h = or-last (resource (x .header))
-  where
-    or-last : (b : Bool) → (b || false) ≡ (false || b)
-    or-last true = refl
-    or-last false = refl
-any-suc (x ∷ hs) (suc i) h = ap (λ (b : Bool). resource (x .header) || b) (any-suc hs i (le-of-suc-le-suc h)) ∙ or-shift (resource (x .header)) (anyResource (take i hs)) (resource (getD hs i zeroHeld .header))
-  where
-    or-shift : (a b c : Bool) → (a || (b || c)) ≡ ((a || b) || c)
-    or-shift true b c = refl
-    or-shift false b c = refl
+any-suc (x ∷ hs) zero h = or-comm (resource (x .header)) false
+any-suc (x ∷ hs) (suc i) h =
+    ap (λ (b : Bool). resource (x .header) || b) (any-suc hs i (le-of-suc-le-suc h))
+    ∙ sym (or-assoc (resource (x .header)) (anyResource (take i hs)) (resource (getD hs i zeroHeld .header)))
 
 -- a Resource sample among the first stays among more of them
 pub any-more : (hs : List Held) (i n : ℕ) → i ≤ n → anyResource (take i hs) ≡ true → anyResource (take n hs) ≡ true

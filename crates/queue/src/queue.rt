@@ -91,7 +91,7 @@ impl Queue {
     }
 
     // How many words the first sample has.
-    pub fn first_count(self) -> usize
+    fn first_count(self) -> usize
         ensures { λ r. ⌜ r ≡ firstCount self ⌝ }
     {
         let first = self.places[0];

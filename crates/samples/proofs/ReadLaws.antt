@@ -1,10 +1,10 @@
 -- Laws of the reader's definitions: a word's fault by its five tests, the scan one word at a time, and the numbers that bytes
 -- give. Assumes nothing.
-use Prim.Native.Nat.{ℕ, zero, suc, _+_, _-_, _*_, _^_, _≤_, _<_}
-use native.Mathlib.Nat.{mod-lt, zero-lt-suc, lt-of-lt-of-le, pow-le-pow-right, le-of-suc-le-suc, suc-ne-zero}
+use Prim.Native.Nat.{ℕ, zero, suc, _+_, _*_, _^_, _≤_, _<_}
+use native.Mathlib.Nat.{mod-lt, zero-lt-suc, lt-of-lt-of-le, pow-le-pow-right, suc-ne-zero}
 use native.Mathlib.Omega.{arith}
-use mathlib.Core.Path.{_≡_, refl, sym, ap, ap₂, _∙_, subst}
-use mathlib.Core.Bool.{Bool, true, false, cond, _&&_, false≢true}
+use mathlib.Core.Path.{_≡_, refl, sym, ap, _∙_}
+use mathlib.Core.Bool.{Bool, true, false, cond, not, _&&_, false≢true}
 use mathlib.Core.List.{List, [], _∷_, map}
 use lib.Dec.{eqb, leb}
 use lib.ListN.{length, getD, take, drop, replicate, length-take, List·getD-map}
@@ -23,30 +23,30 @@ use Rattle.samples.specs.declared.reader.Answer.the-variants.{Good, Unfi
 -- a word's fault by what its tests say: too large, odd, a bad header, the last place, the mark
 abbrev pub faultBy : Bool → Bool → Bool → Bool → Bool → Answer
 faultBy large odd header last mark =
-    cond large TooLarge (cond odd (cond header Header (cond last (cond mark Good Mark) (cond mark Mark Good))) Parity)
+    cond large TooLarge (cond (not odd) Parity (cond header Header (cond last (cond mark Good Mark) (cond mark Mark Good))))
 
 pub fault-by : (n place w : ℕ) {large odd header last mark : Bool} → tooLarge w ≡ large → oddOnes w ≡ odd → (eqb place 0 && leb 32 (byteOf w)) ≡ header → eqb (suc place) n ≡ last → marked w ≡ mark → faultAt n place w ≡ faultBy large odd header last mark
 unfolding faultAt
 fault-by n place w a b c d e = λ i. faultBy (a i) (b i) (c i) (d i) (e i)
 
--- one word of the scan: a fault decides, and a good word leaves it to the rest
-module _ (n i : ℕ) (ws : List ℕ) (f : Answer) (h : i < length ws) (e : f ≡ faultAt n i (getD ws i 0)) where
-  scan-word : scan n i (drop i ws) ≡ orElse f (cond (eqb (suc i) n) Good (scan n (suc i) (drop (suc i) ws)))
-  unfolding scan
-  scan-word = ap (scan n i) (drop-cons ws i 0 h) ∙ ap (λ (a : Answer). orElse a (cond (eqb (suc i) n) Good (scan n (suc i) (drop (suc i) ws)))) (sym e)
+-- one word of the scan: a good word leaves it to the rest, and a fault decides
+pub scan-word : (n i w : ℕ) (ws : List ℕ) {good : Bool} → isGood (faultAt n i w) ≡ good → scan n i (w ∷ ws) ≡ cond good (cond (eqb (suc i) n) Good (scan n (suc i) ws)) (faultAt n i w)
+unfolding scan
+scan-word n i w ws e = ap (λ (g : Bool). cond g (cond (eqb (suc i) n) Good (scan n (suc i) ws)) (faultAt n i w)) e
 
-  pub scan-bad : isGood f ≡ false → scan n i (drop i ws) ≡ f
-  scan-bad b = scan-word ∙ ap (λ (g : Bool). cond g (cond (eqb (suc i) n) Good (scan n (suc i) (drop (suc i) ws))) f) b
+-- a good scan has a good first word, and goes on to a good scan unless that word was the last
+pub scan-first : (f : Answer) (t : Bool) (rest : Answer) → isGood (orElse f (cond t Good rest)) ≡ true → (isGood f ≡ true) × (t ≡ false → isGood rest ≡ true)
+scan-first Good true rest e = (refl, λ q. absurd (false≢true (sym q)))
+scan-first Good false rest e = (refl, λ q. e)
+scan-first Unfinished t rest e = absurd (false≢true e)
+scan-first TooLarge t rest e = absurd (false≢true e)
+scan-first Parity t rest e = absurd (false≢true e)
+scan-first Header t rest e = absurd (false≢true e)
+scan-first Mark t rest e = absurd (false≢true e)
 
-  pub scan-good : isGood f ≡ true → scan n i (drop i ws) ≡ cond (eqb (suc i) n) Good (scan n (suc i) (drop (suc i) ws))
-  scan-good g = scan-word ∙ ap (λ (g : Bool). cond g (cond (eqb (suc i) n) Good (scan n (suc i) (drop (suc i) ws))) f) g
-
--- the bytes of words
-pub byte-map : (ws : List ℕ) (i : ℕ) → getD (map byteOf ws) i 0 ≡ byteOf (getD ws i 0)
-byte-map ws i = List·getD-map byteOf ws i 0
-
+-- the bytes of words are bytes
 pub map-below : (ws : List ℕ) (i : ℕ) → getD (map byteOf ws) i 0 < 256
-map-below ws i = rw (byte-map ws i) (mod-lt (getD ws i 0) (zero-lt-suc 255))
+map-below ws i = rw (List·getD-map byteOf ws i 0) (mod-lt (getD ws i 0) (zero-lt-suc 255))
 
 -- one byte more at the low end
 pub number-step : (bs : List ℕ) (i k : ℕ) → i < length bs → number (take (suc k) (drop i bs)) ≡ getD bs i 0 + 256 * number (take k (drop (suc i) bs))
@@ -82,16 +82,11 @@ is-good Mark e = absurd (false≢true e)
 pub scan-enough : (n i : ℕ) (ws : List ℕ) → isGood (scan n i ws) ≡ true → n ≤ i + length ws
 unfolding scan
 scan-enough n i [] g = absurd (false≢true g)
-scan-enough n i (w ∷ ws) g = first (faultAt n i w) (eqb (suc i) n) refl g (scan-enough n (suc i) ws)
+scan-enough n i (w ∷ ws) g = go (eqb (suc i) n) refl (scan-first (faultAt n i w) (eqb (suc i) n) (scan n (suc i) ws) g .1) (scan-enough n (suc i) ws)
   where
-    first : (f : Answer) (t : Bool) → eqb (suc i) n ≡ t → isGood (orElse f (cond t Good (scan n (suc i) ws))) ≡ true → (isGood (scan n (suc i) ws) ≡ true → n ≤ suc i + length ws) → n ≤ i + suc (length ws)
-    first Good true e q ih = omega (arith, eqb-true (suc i) n e)
-    first Good false e q ih = omega (arith, ih q)
-    first Unfinished t e q ih = absurd (false≢true q)
-    first TooLarge t e q ih = absurd (false≢true q)
-    first Parity t e q ih = absurd (false≢true q)
-    first Header t e q ih = absurd (false≢true q)
-    first Mark t e q ih = absurd (false≢true q)
+    go : (t : Bool) → eqb (suc i) n ≡ t → (eqb (suc i) n ≡ false → isGood (scan n (suc i) ws) ≡ true) → (isGood (scan n (suc i) ws) ≡ true → n ≤ suc i + length ws) → n ≤ i + suc (length ws)
+    go true e more ih = omega (arith, eqb-true (suc i) n e)
+    go false e more ih = omega (arith, ih (more e))
 
 -- the header is the first word's byte
 pub header-byte : (ws : List ℕ) → number (take 1 (map byteOf ws)) ≡ byteOf (getD ws 0 0)

@@ -1,26 +1,25 @@
 -- What the theorems on writing and reading stand on: the scan of written words is good, and words whose scan is good are
 -- written ones. Assumes nothing.
-use Prim.Native.Nat.{ℕ, zero, suc, _+_, _-_, _*_, _^_, _≤_, _<_}
-use native.Mathlib.Nat.{suc-ne-zero, suc-inj, zero-lt-suc, zero-add, add-zero}
+use Prim.Native.Nat.{ℕ, zero, suc, _+_, _^_, _≤_, _<_}
+use native.Mathlib.Nat.{add-zero}
 use native.Mathlib.Omega.{arith}
-use mathlib.Core.Path.{_≡_, refl, sym, ap, ap₂, _∙_, subst}
-use mathlib.Core.Bool.{Bool, true, false, cond, _&&_, _||_, false≢true, and-false}
+use mathlib.Core.Path.{_≡_, refl, sym, ap, ap₂, _∙_}
+use mathlib.Core.Bool.{Bool, true, false, cond, _&&_, _||_, false≢true}
 use mathlib.Core.List.{List, [], _∷_, _++_, map, append-assoc, append-nil}
 use lib.Dec.{eqb, leb, ltb, eqb·suc-zero}
 use lib.ListN.{length, getD, take, drop, replicate, length-drop}
 use lib.Seq.{drop-at, take-add}
-use borrow.Author.Tests.{eq-eqb, ne-eqb, eqb-true, eqb-false, lt-ltb, lt-leb, leb-false, ltb-true}
+use borrow.Author.Tests.{eq-eqb, ne-eqb, eqb-true, ltb-true}
 use Rattle.words.specs.Bytes.{number}
-use Rattle.words.specs.Word.{wordOf, wordsOf, isLast, tooLarge, oddOnes, marked, byteOf}
+use Rattle.words.specs.Word.{wordOf, wordsOf, tooLarge, oddOnes, marked, byteOf}
 use Rattle.words.proofs.WordLaws.{word-small, word-odd, word-byte, word-marked, word-back}
 use Rattle.samples.specs.Layout.{Widths, fieldWidths, counterWidths, counterBytes, fieldBytes, sampleBytes, sampleLength, resource, spread, total}
 use Rattle.samples.specs.Write.{within, allZero, writable}
-use Rattle.samples.specs.Read.{faultAt, gather, isGood, orElse, sampleOf, scan}
+use Rattle.samples.specs.Read.{faultAt, gather, isGood, sampleOf, scan}
 use Rattle.samples.specs.declared.sample.Sample.{Sample}
-use Rattle.samples.specs.declared.reader.Answer.{Answer}
-use Rattle.samples.specs.declared.reader.Answer.the-variants.{Good, Unfinished, TooLarge, Parity, Header, Mark}
+use Rattle.samples.specs.declared.reader.Answer.the-variants.{Good}
 use Rattle.samples.proofs.Gather.{both-left, both-right, gather-spread, spread-gather}
-use Rattle.samples.proofs.ReadLaws.{faultBy, fault-by, drop-below}
+use Rattle.samples.proofs.ReadLaws.{faultBy, fault-by, drop-below, scan-first, scan-word}
 use Rattle.samples.proofs.SampleLaws.{fields-length}
 
 -- ---- the scan of written words
@@ -41,19 +40,15 @@ fault-word n i b last h p q =
 after-first : (i b : ℕ) → (eqb (suc i) 0 && leb 32 b) ≡ false
 after-first i b = ap (λ (t : Bool). t && leb 32 b) (eqb·suc-zero i)
 
-scan-head : (n i w : ℕ) (ws : List ℕ) → faultAt n i w ≡ Good → scan n i (w ∷ ws) ≡ cond (eqb (suc i) n) Good (scan n (suc i) ws)
-unfolding scan
-scan-head n i w ws e = ap (λ (f : Answer). orElse f (cond (eqb (suc i) n) Good (scan n (suc i) ws))) e
-
 pub scan-written : (n i b : ℕ) (bs rest : List ℕ) → ((j : ℕ) → getD (b ∷ bs) j 0 < 256) → n ≡ suc (i + length bs) → (eqb i 0 && leb 32 b) ≡ false → scan n i (wordsOf (b ∷ bs) ++ rest) ≡ Good
 unfolding wordsOf
 scan-written n i b [] rest h e p =
     let last : eqb (suc i) n ≡ true = eq-eqb (suc i) n (omega arith) in
-    scan-head n i (wordOf true b) rest (fault-word n i b true (h zero) p last)
+    scan-word n i (wordOf true b) rest (ap isGood (fault-word n i b true (h zero) p last))
     ∙ ap (λ (t : Bool). cond t Good (scan n (suc i) rest)) last
 scan-written n i b (c ∷ bs) rest h e p =
     let other : eqb (suc i) n ≡ false = ne-eqb (suc i) n (λ q. omega arith) in
-    scan-head n i (wordOf false b) (wordsOf (c ∷ bs) ++ rest) (fault-word n i b false (h zero) p other)
+    scan-word n i (wordOf false b) (wordsOf (c ∷ bs) ++ rest) (ap isGood (fault-word n i b false (h zero) p other))
     ∙ ap (λ (t : Bool). cond t Good (scan n (suc i) (wordsOf (c ∷ bs) ++ rest))) other
     ∙ scan-written n (suc i) c bs rest (λ j. h (suc j)) (omega arith) (after-first i c)
 
@@ -68,16 +63,6 @@ passed false true false true true e = (refl, refl, refl, refl)
 passed false true false true false e = absurd (false≢true e)
 passed false true false false true e = absurd (false≢true e)
 passed false true false false false e = (refl, refl, refl, refl)
-
--- a good scan has a good first word, and goes on to a good scan unless that word was the last
-scan-first : (f : Answer) (t : Bool) (rest : Answer) → isGood (orElse f (cond t Good rest)) ≡ true → (isGood f ≡ true) × (t ≡ false → isGood rest ≡ true)
-scan-first Good true rest e = (refl, λ q. absurd (false≢true (sym q)))
-scan-first Good false rest e = (refl, λ q. e)
-scan-first Unfinished t rest e = absurd (false≢true e)
-scan-first TooLarge t rest e = absurd (false≢true e)
-scan-first Parity t rest e = absurd (false≢true e)
-scan-first Header t rest e = absurd (false≢true e)
-scan-first Mark t rest e = absurd (false≢true e)
 
 module _ (n i w : ℕ) (ws : List ℕ) (good : isGood (scan n i (w ∷ ws)) ≡ true) where
   pub first-passed : (tooLarge w ≡ false) × (oddOnes w ≡ true) × ((eqb i 0 && leb 32 (byteOf w)) ≡ false) × (marked w ≡ eqb (suc i) n)
@@ -116,7 +101,7 @@ zeros [] e = refl
 zeros (x ∷ xs) e = ap₂ (λ (a : ℕ) (r : List ℕ). a ∷ r) (eqb-true x 0 (both-left (eqb x 0) (allZero xs) e)) (zeros xs (both-right (eqb x 0) (allZero xs) e))
 
 -- numbers within as many widths are as many
-within-length : (ns xs : List ℕ) → within ns xs ≡ true → length xs ≡ length ns
+pub within-length : (ns xs : List ℕ) → within ns xs ≡ true → length xs ≡ length ns
 unfolding within
 within-length [] [] e = refl
 within-length [] (x ∷ xs) e = absurd (false≢true e)

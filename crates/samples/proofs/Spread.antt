@@ -1,18 +1,17 @@
 -- Laws of fields laid one after the other, over their widths: what stands at a place, how many bytes there are, and that each
 -- is below 256. Assumes nothing.
-use Prim.Native.Nat.{ℕ, zero, suc, _+_, _-_, _*_, _/_, _%_, _^_, _≤_, _<_}
-use native.Mathlib.Nat.{zero-lt-suc, le-of-suc-le-suc, not-suc-le-zero, add-sub-of-le, zero-div, suc-ne-zero, suc-inj, div-eq-of-lt, mod-eq-of-lt, div-eq-sub-div, mod-eq-sub-mod}
+use Prim.Native.Nat.{ℕ, zero, suc, _+_, _-_, _/_, _%_, _≤_, _<_, zero-le}
+use native.Mathlib.Nat.{zero-lt-suc, add-sub-of-le, suc-ne-zero, suc-inj, div-eq-of-lt, mod-eq-of-lt, div-eq-sub-div, mod-eq-sub-mod}
 use native.Mathlib.Numerals.{add-one}
 use borrow.Author.Tests.{ltb-true, ltb-false}
 use lib.Dec.{ltb}
-use native.Mathlib.Omega.{arith}
 use mathlib.Core.Path.{_≡_, refl, sym, ap, ap₂, _∙_, subst}
-use mathlib.Core.Bool.{Bool, true, false, cond}
+use mathlib.Core.Bool.{Bool, true, false}
 use mathlib.Core.List.{List, [], _∷_, _++_}
-use lib.ListN.{length, getD, take, drop, replicate, List·getD-append, length-append}
+use lib.ListN.{length, getD, replicate, List·getD-append, length-append}
 use lib.Seq.{getD-append-add}
-use Rattle.words.specs.Bytes.{byteAt, lowBytes, number}
-use Rattle.words.proofs.ByteLaws.{low-length, low-at, low-below}
+use Rattle.words.specs.Bytes.{byteAt, lowBytes}
+use Rattle.words.proofs.ByteLaws.{byte-past, low-length, low-at, low-below}
 use Rattle.samples.specs.Layout.{spread, total}
 
 -- a list of n before another: below n the first is read, from n on the second
@@ -31,9 +30,6 @@ spread-here n x i ns xs h = at-before (lowBytes n x) (spread ns xs) n i (low-len
 pub spread-add : (n x i : ℕ) (ns xs : List ℕ) → getD (spread (n ∷ ns) (x ∷ xs)) (n + i) 0 ≡ getD (spread ns xs) i 0
 unfolding spread
 spread-add n x i ns xs = at-add (lowBytes n x) (spread ns xs) n i (low-length n x)
-
-pub byte-zero : (i : ℕ) → byteAt 0 i ≡ 0
-byte-zero i = ap (λ (q : ℕ). q % 256) (zero-div (256 ^ i))
 
 -- how many bytes there are, and that each is one
 pub spread-length : (ns xs : List ℕ) → length xs ≡ length ns → length (spread ns xs) ≡ total ns
@@ -57,7 +53,7 @@ spread-below (n ∷ ns) (x ∷ xs) i = below-append (lowBytes n x) (spread ns xs
 -- numbers of one width: the byte at a place is one of the number that the place falls into
 pub spread-each : (m k : ℕ) (xs : List ℕ) (i : ℕ) → zero < m → length xs ≡ k → getD (spread (replicate k m) xs) i 0 ≡ byteAt (getD xs (i / m) 0) (i % m)
 unfolding spread
-spread-each m zero [] i p e = sym (byte-zero (i % m))
+spread-each m zero [] i p e = sym (byte-past 0 0 (i % m) (zero-lt-suc 0) zero-le)
 spread-each m zero (x ∷ xs) i p e = absurd (suc-ne-zero _ e)
 spread-each m (suc k) [] i p e = absurd (suc-ne-zero _ (sym e))
 spread-each m (suc k) (x ∷ xs) i p e = go (ltb i m) refl (spread-each m k xs (i - m) p (suc-inj e))

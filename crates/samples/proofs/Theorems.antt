@@ -3,21 +3,20 @@
 use Prim.Native.Nat.{ℕ, zero, suc, _+_, _-_, _≤_, _<_, _%_}
 use native.Mathlib.Nat.{zero-add, mod-eq-of-lt, lt-trans}
 use native.Mathlib.Omega.{arith}
-use mathlib.Core.Path.{_≡_, refl, sym, ap, ap₂, _∙_, subst}
+use mathlib.Core.Path.{_≡_, refl, sym, ap, _∙_, subst}
 use mathlib.Core.Bool.{Bool, true, false, cond, _&&_, _||_, false≢true}
 use mathlib.Core.List.{List, [], _∷_, _++_, map, map-append}
-use lib.Dec.{eqb, leb, ltb, lit<}
+use lib.Dec.{ltb, lit<}
 use lib.ListN.{length, getD, take, drop, replicate, length-map}
 use borrow.Author.Tests.{lt-leb, leb-false, lt-ltb}
 use Rattle.words.specs.Bytes.{lowBytes, number}
-use Rattle.words.specs.Word.{wordOf, wordsOf, isLast, byteOf}
+use Rattle.words.specs.Word.{wordsOf, isLast, byteOf}
 use Rattle.words.proofs.WordLaws.{words-bytes, word-byte}
 use Rattle.samples.specs.Layout.{Widths, fieldWidths, counterWidths, counterBytes, fieldBytes, sampleBytes, sampleWords, sampleLength, resource, spread, total}
 use Rattle.samples.specs.Write.{within, allZero, writable}
-use Rattle.samples.specs.Read.{gather, isGood, readAnswer, readPart, refusal, sampleOf, scan, wanted}
+use Rattle.samples.specs.Read.{gather, isGood, readPart, refusal, sampleOf, scan, wanted}
 use Rattle.samples.specs.declared.sample.Sample.{Sample}
 use Rattle.samples.specs.declared.reader.Reading.{Reading}
-use Rattle.samples.specs.declared.reader.Answer.{Answer}
 use Rattle.samples.specs.declared.reader.Answer.the-variants.{Good}
 use Rattle.samples.proofs.Gather.{within-gather}
 use Rattle.samples.proofs.ReadLaws.{header-byte, map-below, drop-below, read-good, scan-enough}

@@ -1,9 +1,9 @@
 -- Document 01, "Sample and words": the reader and its answers 20 to 24.
-use Prim.Native.Nat.{ℕ, zero, suc, _+_}
-use mathlib.Core.Bool.{Bool, true, false, cond, _&&_}
+use Prim.Native.Nat.{ℕ, suc}
+use mathlib.Core.Bool.{Bool, true, false, cond, not, _&&_}
 use mathlib.Core.List.{List, [], _∷_, map}
 use lib.Dec.{leb, eqb}
-use lib.ListN.{length, take, drop, getD, replicate}
+use lib.ListN.{take, drop, getD, replicate}
 use Rattle.words.specs.Bytes.{number}
 use Rattle.words.specs.Word.{tooLarge, oddOnes, marked, byteOf}
 use Rattle.samples.specs.Layout.{Widths, fieldWidths, counterWidths, resource, total, sampleLength}
@@ -17,10 +17,9 @@ use Rattle.samples.specs.declared.reader.Answer.the-variants.{Good, Unfi
 unfoldable pub faultAt : ℕ → ℕ → ℕ → Answer
 faultAt n place w =
     cond (tooLarge w) TooLarge
-    (cond (oddOnes w)
+    (cond (not (oddOnes w)) Parity
     (cond (eqb place 0 && leb 32 (byteOf w)) Header
-    (cond (eqb (suc place) n) (cond (marked w) Good Mark) (cond (marked w) Mark Good)))
-    Parity)
+    (cond (eqb (suc place) n) (cond (marked w) Good Mark) (cond (marked w) Mark Good))))
 
 abbrev pub isGood : Answer → Bool
 isGood Good = true

@@ -111,24 +111,19 @@ fn fault_at(count: usize, place: usize, word: u16) -> Answer
     if too_large(word) {
         return Answer::TooLarge;
     }
-    if odd_ones(word) {
-        if bad_header(place, word) {
-            return Answer::Header;
-        }
-        let last = place + 1 == count;
-        let mark = marked(word);
-        if last {
-            if mark {
-                return Answer::Good;
-            }
-            return Answer::Mark;
-        }
-        if mark {
-            return Answer::Mark;
-        }
-        return Answer::Good;
+    if !odd_ones(word) {
+        return Answer::Parity;
     }
-    Answer::Parity
+    if bad_header(place, word) {
+        return Answer::Header;
+    }
+    let last = place + 1 == count;
+    let mark = marked(word);
+    if last {
+        if mark { Answer::Good } else { Answer::Mark }
+    } else {
+        if mark { Answer::Mark } else { Answer::Good }
+    }
 }
 
 // Whether the word is a sample's first and has header bits 5 to 7 set.

@@ -1,9 +1,9 @@
--- The law of the low bytes of a number, once, over how many bytes there are: their number, each byte, that each is below 256,
+-- The law of the low bytes of a number, once, over how many bytes there are: each byte, their number, that each is below 256,
 -- the number they give back, and the bytes that the number gives back. Assumes nothing.
 use Prim.Native.Nat.{ℕ, zero, suc, _+_, _*_, _/_, _%_, _^_, _≤_, _<_}
-use native.Mathlib.Nat.{mod-lt, mod-one, mod-eq-of-lt, zero-lt-suc, pow-suc, pow-succ', div-div-eq-div-mul, div-eq-of-lt, div-one, le-of-suc-le-suc, not-suc-le-zero, one-le-pow, pow-le-pow-right, lt-of-lt-of-le, add-mul-div-left, add-mul-mod-self-left, suc-mul, mul-add, mul-assoc, add-assoc}
+use native.Mathlib.Nat.{mod-lt, mod-one, mod-eq-of-lt, zero-lt-suc, pow-suc, pow-succ', div-div-eq-div-mul, div-eq-of-lt, div-one, le-of-suc-le-suc, not-suc-le-zero, one-le-pow, pow-le-pow-right, lt-of-lt-of-le, add-mul-mod-self-left, suc-mul, mul-add, mul-assoc, add-assoc}
 use native.Mathlib.Omega.{arith}
-use mathlib.Core.Path.{_≡_, refl, sym, ap, ap₂, _∙_, subst}
+use mathlib.Core.Path.{_≡_, refl, sym, ap, ap₂, _∙_}
 use mathlib.Core.List.{List, [], _∷_, _++_}
 use lib.Arith.{mod-mul}
 use lib.Pow.{pow-add}
@@ -18,12 +18,6 @@ pub bytes-bits : (n : ℕ) → 256 ^ n ≡ 2 ^ (n * 8)
 bytes-bits zero = refl
 bytes-bits (suc n) = rw (pow-suc, bytes-bits n, suc-mul, pow-add)
 
--- their number
-pub low-length : (n x : ℕ) → length (lowBytes n x) ≡ n
-unfolding lowBytes
-low-length zero x = refl
-low-length (suc n) x = ap suc (low-length n (x / 256))
-
 -- each byte
 pub low-at : (n x i : ℕ) → i < n → getD (lowBytes n x) i 0 ≡ byteAt x i
 unfolding lowBytes
@@ -32,6 +26,12 @@ low-at (suc n) x zero h = ap (λ (y : ℕ). y % 256) (sym (div-one x))
 low-at (suc n) x (suc i) h =
     low-at n (x / 256) i (le-of-suc-le-suc h)
     ∙ ap (λ (y : ℕ). y % 256) (div-div-eq-div-mul x 256 (256 ^ i) ∙ ap (λ (d : ℕ). x / d) (sym (pow-succ' 256 i)))
+
+-- their number
+pub low-length : (n x : ℕ) → length (lowBytes n x) ≡ n
+unfolding lowBytes
+low-length zero x = refl
+low-length (suc n) x = ap suc (low-length n (x / 256))
 
 -- a number of n bytes has none past them
 pub byte-past : (n x i : ℕ) → x < 256 ^ n → n ≤ i → byteAt x i ≡ 0

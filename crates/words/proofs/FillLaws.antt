@@ -1,21 +1,14 @@
 -- A buffer that is filled from its start, one word at a time, with the words of a list. Assumes nothing.
-use Prim.Native.Nat.{ℕ, zero, suc, _+_, _-_, _≤_, _<_}
+use Prim.Native.Nat.{ℕ, suc, _<_}
 use native.Mathlib.Nat.{zero-add}
-use native.Mathlib.Omega.{arith}
-use mathlib.Core.Path.{_≡_, refl, sym, ap, _∙_, subst}
-use mathlib.Core.List.{List, [], _∷_, _++_}
-use lib.ListN.{length, getD, take, drop, set, length-append, length-drop}
-use lib.Seq.{paste-suc, take-length, length-take-le}
+use mathlib.Core.Path.{_≡_, ap, subst}
+use mathlib.Core.List.{List, _++_}
+use lib.ListN.{length, getD, take, drop, set}
+use lib.Seq.{paste-suc, take-length}
 
 -- one more word
 pub fill-suc : (ws out : List ℕ) (i : ℕ) → i < length ws → i < length out → set (take i ws ++ drop i out) i (getD ws i 0) ≡ take (suc i) ws ++ drop (suc i) out
 fill-suc ws out i h k = simp zero-add at (paste-suc out 0 ws i 0 (rw zero-add k) h)
-
-pub fill-length : (ws out : List ℕ) (i : ℕ) → i ≤ length ws → i ≤ length out → length (take i ws ++ drop i out) ≡ length out
-fill-length ws out i h k =
-    let a : length (take i ws) ≡ i = length-take-le i ws h in
-    let b : length (drop i out) ≡ length out - i = length-drop i out in
-    length-append (take i ws) (drop i out) ∙ omega arith
 
 -- all the words
 pub fill-all : (ws out : List ℕ) (n : ℕ) → length ws ≡ n → take n ws ++ drop n out ≡ ws ++ drop n out

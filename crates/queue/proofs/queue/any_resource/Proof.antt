@@ -5,9 +5,8 @@ use Prim.Native.Nat.{ℕ, suc, _-_, _≤_, min}
 use native.Mathlib.Numerals.{add-one}
 use mathlib.Core.Path.{_≡_, refl, sym, ap, _∙_}
 use mathlib.Core.Bool.{Bool, true, false, _||_, or-true}
-use lib.ListN.{length, getD, take}
-use Rattle.samples.specs.Layout.{resource}
-use Rattle.queue.specs.Queue.{anyResource, zeroHeld}
+use lib.ListN.{length, take}
+use Rattle.queue.specs.Queue.{anyResource}
 use Rattle.queue.proofs.QueueLaws.{any-suc, any-more, take-least}
 use Rattle.queue.proofs.queue.any_resource.Statement.{statement}
 use Rattle.queue.proofs.queue.any_resource.Tie as tie

@@ -1,11 +1,10 @@
 -- `samples::reader::decode` meets its contract: each field is the number of the bytes at its place. Assumes nothing.
 use borrow.Author.Needs.{needs}
-use Prim.Native.Nat.{ℕ, _≤_}
 use native.Mathlib.Omega.{arith}
-use mathlib.Core.Path.{_≡_, refl, sym, ap, _∙_}
+use mathlib.Core.Path.{_≡_, sym, ap, _∙_}
 use mathlib.Core.Bool.{Bool, true, false, cond}
 use mathlib.Core.List.{map}
-use lib.ListN.{length, getD, drop, replicate}
+use lib.ListN.{getD, drop, replicate}
 use Rattle.words.specs.Word.{byteOf}
 use Rattle.samples.specs.Layout.{firstChip, counterWidths, resource, sampleLength}
 use Rattle.samples.specs.Read.{gather}

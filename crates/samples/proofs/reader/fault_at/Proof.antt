@@ -5,6 +5,7 @@ use native.Mathlib.Numerals.{add-one}
 use mathlib.Core.Path.{_≡_, refl, sym, ap, _∙_}
 use mathlib.Core.Bool.{Bool, true, false}
 use lib.Dec.{eqb}
+use borrow.Author.Tests.{not-true, not-false}
 use Rattle.samples.proofs.ReadLaws.{fault-by, faultBy}
 use Rattle.samples.specs.Read.{faultAt}
 use Rattle.samples.proofs.reader.fault_at.Statement.{statement}
@@ -21,17 +22,28 @@ returns c =
 odd-ones-requires : tie.Need-odd-ones-requires
 odd-ones-requires c κs = search needs
 
+returns-2 : tie.Need-returns-2
+returns-2 c =
+    let a = c .before .before .before .before .args in
+    sym
+    (fault-by (a .count) (a .place) (a .word)
+    (sym (c .before .before .before .too-large .ensures) ∙ c .before .before .if1 .left)
+    (sym (c .before .odd-ones .ensures) ∙ not-true _ (c .if2 .taken))
+    refl
+    refl
+    refl)
+
 bad-header-requires : tie.Need-bad-header-requires
 bad-header-requires c κs = search needs
 
-returns-2 : tie.Need-returns-2
-returns-2 c =
+returns-3 : tie.Need-returns-3
+returns-3 c =
     let d = c .before .before in
     let a = d .before .before .before .before .args in
     sym
     (fault-by (a .count) (a .place) (a .word)
     (sym (d .before .before .before .too-large .ensures) ∙ d .before .before .if1 .left)
-    (sym (d .before .odd-ones .ensures) ∙ d .if2 .taken)
+    (sym (d .before .odd-ones .ensures) ∙ not-false _ (d .if2 .left))
     (sym (c .before .bad-header .ensures) ∙ c .if3 .taken)
     refl
     refl)
@@ -50,33 +62,22 @@ by-mark c p q =
     let a = d .before .before .before .before .args in
     fault-by (a .count) (a .place) (a .word)
     (sym (d .before .before .before .too-large .ensures) ∙ d .before .before .if1 .left)
-    (sym (d .before .odd-ones .ensures) ∙ d .if2 .taken)
+    (sym (d .before .odd-ones .ensures) ∙ not-false _ (d .if2 .left))
     (sym (h .bad-header .ensures) ∙ c .before .if3 .left)
     (ap (λ (k : ℕ). eqb k (a .count)) (sym (add-one (a .place))) ∙ p)
     (sym (c .marked .ensures) ∙ q)
 
-returns-3 : tie.Need-returns-3
-returns-3 c = sym (by-mark (c .before .before) (c .before .if4 .taken) (c .if5 .taken))
-
 returns-4 : tie.Need-returns-4
-returns-4 c = sym (by-mark (c .before .before) (c .before .if4 .taken) (c .if5 .left))
+returns-4 c = sym (by-mark (c .before .before) (c .before .if4 .taken) (c .if5 .taken))
 
 returns-5 : tie.Need-returns-5
-returns-5 c = sym (by-mark (c .before .before) (c .before .if4 .left) (c .if6 .taken))
+returns-5 c = sym (by-mark (c .before .before) (c .before .if4 .taken) (c .if5 .left))
 
 returns-6 : tie.Need-returns-6
-returns-6 c = sym (by-mark (c .before .before) (c .before .if4 .left) (c .if6 .left))
+returns-6 c = sym (by-mark (c .before .before) (c .before .if4 .left) (c .if6 .taken))
 
 returns-7 : tie.Need-returns-7
-returns-7 c =
-    let a = c .before .before .before .before .args in
-    sym
-    (fault-by (a .count) (a .place) (a .word)
-    (sym (c .before .before .before .too-large .ensures) ∙ c .before .before .if1 .left)
-    (sym (c .before .odd-ones .ensures) ∙ c .if2 .left)
-    refl
-    refl
-    refl)
+returns-7 c = sym (by-mark (c .before .before) (c .before .if4 .left) (c .if6 .left))
 
 pub fault-at-spec : {M : Type 1} → statement M
 fault-at-spec =
@@ -85,11 +86,11 @@ fault-at-spec =
     too-large-requires
     returns
     odd-ones-requires
-    bad-header-requires
     returns-2
+    bad-header-requires
+    returns-3
     add-last
     marked-requires
-    returns-3
     returns-4
     returns-5
     returns-6

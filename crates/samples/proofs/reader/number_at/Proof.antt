@@ -1,15 +1,15 @@
 -- `samples::reader::number_at` meets its contract: the sum is the number of the bytes from `left` on, so it has at most seven
 -- bytes before the last turn and fits. Assumes nothing.
 use borrow.Author.Needs.{needs}
-use Prim.Native.Nat.{ℕ, suc, _+_, _-_, _*_, _^_, _<_, _≤_}
+use Prim.Native.Nat.{ℕ, suc, _+_, _-_, _^_, _<_, _≤_}
 use native.Mathlib.Nat.{lt-of-lt-of-le, pow-le-pow-right, zero-lt-suc, sub-self, sub-zero, add-zero}
 use native.Mathlib.Omega.{arith}
-use mathlib.Core.Path.{_≡_, refl, sym, ap, _∙_, subst}
+use mathlib.Core.Path.{_≡_, sym, ap, _∙_, subst}
 use mathlib.Core.List.{map}
-use lib.ListN.{length, getD, take, drop, length-map}
+use lib.ListN.{length, getD, take, drop, length-map, List·getD-map}
 use Rattle.words.specs.Bytes.{number}
 use Rattle.words.specs.Word.{byteOf}
-use Rattle.samples.proofs.ReadLaws.{number-step, number-take, drop-below, map-below, byte-map}
+use Rattle.samples.proofs.ReadLaws.{number-step, number-take, drop-below, map-below}
 use Rattle.samples.proofs.reader.number_at.Statement.{statement}
 use Rattle.samples.proofs.reader.number_at.Tie as tie
 
@@ -70,7 +70,7 @@ loop-again c =
     let more : a .size - (l .left - 1) ≡ suc (a .size - l .left) = omega arith in
     let next : suc j ≡ a .start + l .left = omega arith in
     let inside : j < length bytes = rw length-map (omega arith) in
-    let here : getD bytes j 0 ≡ c .byte .result = byte-map (a .part .now) j ∙ sym (c .byte .ensures) in
+    let here : getD bytes j 0 ≡ c .byte .result = List·getD-map byteOf (a .part .now) j 0 ∙ sym (c .byte .ensures) in
     let rest : number (take (a .size - l .left) (drop (suc j) bytes)) ≡ l .sum = ap (λ (k : ℕ). number (take (a .size - l .left) (drop k bytes))) next ∙ sym (l .inv .1) in (
       search needs,
       rw more (omega (arith, number-step bytes j (a .size - l .left) inside)),

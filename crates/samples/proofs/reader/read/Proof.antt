@@ -1,10 +1,9 @@
 -- `samples::reader::read` meets its contract: the first byte says how many words are wanted, the scan of those words decides,
 -- and a good scan has seen them all. Assumes nothing.
 use borrow.Author.Needs.{needs}
-use Prim.Native.Nat.{ℕ, _+_, _≤_}
+use Prim.Native.Nat.{ℕ, _≤_}
 use native.Mathlib.Nat.{zero-add}
-use native.Mathlib.Omega.{arith}
-use mathlib.Core.Path.{_≡_, refl, sym, ap, _∙_, subst}
+use mathlib.Core.Path.{_≡_, sym, ap, _∙_, subst}
 use mathlib.Core.Bool.{true}
 use lib.ListN.{length}
 use Rattle.samples.specs.Layout.{firstChip, resource, sampleLength}

@@ -1,17 +1,18 @@
 -- `samples::reader::scan` meets its contract: at each turn the whole part's answer is that of the words from i on, and i is
 -- below the words wanted. Assumes nothing.
 use borrow.Author.Needs.{needs}
-use Prim.Native.Nat.{ℕ, suc, _+_, _-_, _<_, _≤_}
+use Prim.Native.Nat.{suc, _-_, _<_, _≤_}
 use native.Mathlib.Omega.{arith}
 use native.Mathlib.Numerals.{add-one}
 use mathlib.Core.Path.{_≡_, refl, sym, ap, _∙_}
 use mathlib.Core.Bool.{Bool, true, false, cond}
 use lib.Dec.{eqb}
 use lib.ListN.{length, getD, drop, drop-of-length-le}
+use lib.Seq.{drop-cons}
 use borrow.Author.Tests.{eq-eqb, ne-eqb, not-true, not-false}
-use Rattle.samples.specs.Read.{scan}
+use Rattle.samples.specs.Read.{isGood, scan}
 use Rattle.samples.specs.declared.reader.Answer.the-variants.{Good}
-use Rattle.samples.proofs.ReadLaws.{scan-bad, scan-good}
+use Rattle.samples.proofs.ReadLaws.{scan-word}
 use Rattle.samples.proofs.reader.scan.Statement.{statement}
 use Rattle.samples.proofs.reader.scan.Tie as tie
 
@@ -42,9 +43,10 @@ returns c =
     let l = f .before .before .before .loop in
     let a = f .before .before .before .before .before .args in
     sym
-    (l .inv .2
-    ∙ scan-bad (a .count) (l .i) (a .part .now) (f .fault-at .result) (search needs) (f .fault-at .ensures)
-    (sym (c .before .is-good .ensures) ∙ not-true _ (c .if1 .taken)))
+    (l .inv .2 ∙ ap (scan (a .count) (l .i)) (drop-cons (a .part .now) (l .i) 0 (search needs))
+    ∙ scan-word (a .count) (l .i) (getD (a .part .now) (l .i) 0) (drop (suc (l .i)) (a .part .now))
+    (ap isGood (sym (f .fault-at .ensures)) ∙ sym (c .before .is-good .ensures) ∙ not-true _ (c .if1 .taken))
+    ∙ sym (f .fault-at .ensures))
 
 add-i : tie.Need-add-i Inv-loop μ-loop
 add-i c = search needs
@@ -55,9 +57,9 @@ good c =
     let f = c .before .before in
     let l = f .before .before .before .loop in
     let a = f .before .before .before .before .before .args in
-    l .inv .2
-    ∙ scan-good (a .count) (l .i) (a .part .now) (f .fault-at .result) (search needs) (f .fault-at .ensures)
-    (sym (c .before .is-good .ensures) ∙ not-false _ (c .if1 .left))
+    l .inv .2 ∙ ap (scan (a .count) (l .i)) (drop-cons (a .part .now) (l .i) 0 (search needs))
+    ∙ scan-word (a .count) (l .i) (getD (a .part .now) (l .i) 0) (drop (suc (l .i)) (a .part .now))
+    (ap isGood (sym (f .fault-at .ensures)) ∙ sym (c .before .is-good .ensures) ∙ not-false _ (c .if1 .left))
 
 returns-2 : tie.Need-returns-2 Inv-loop μ-loop
 returns-2 c =

@@ -2,12 +2,13 @@
 -- Assumes nothing.
 use borrow.Author.Needs.{needs}
 use native.Mathlib.Nat.{zero-lt-suc}
-use Prim.Native.Nat.{ℕ, _/_, _%_}
+use Prim.Native.Nat.{ℕ, _%_, zero-le}
 use mathlib.Core.Path.{sym, ap, _∙_}
 use lib.ListN.{List·getD-eq-default}
 use Rattle.words.specs.Bytes.{byteAt}
+use Rattle.words.proofs.ByteLaws.{byte-past}
 use Rattle.samples.specs.Layout.{counterBytes}
-use Rattle.samples.proofs.Spread.{spread-each, byte-zero}
+use Rattle.samples.proofs.Spread.{spread-each}
 use Rattle.samples.proofs.sample.counter_byte.Statement.{statement}
 use Rattle.samples.proofs.sample.counter_byte.Tie as tie
 
@@ -36,7 +37,7 @@ returns-2 c =
     sym
     (spread-each 4 16 (a .t1) (a .place) (zero-lt-suc 3) (search needs)
     ∙ ap (λ (x : ℕ). byteAt x (a .place % 4)) (List·getD-eq-default (a .t1) 0 (search needs))
-    ∙ byte-zero (a .place % 4))
+    ∙ byte-past 0 0 (a .place % 4) (zero-lt-suc 0) zero-le)
 
 pub counter-byte-spec : {M : Type 1} → statement M
 counter-byte-spec =

@@ -1,11 +1,6 @@
 -- `samples::sample::sample_byte` meets its contract: the four fields take places 0 to 15, the counters those after. Assumes nothing.
 use borrow.Author.Needs.{needs}
-use Prim.Native.Nat.{ℕ, _+_, _-_}
-use native.Mathlib.Omega.{arith}
-use mathlib.Core.Path.{_≡_, sym, ap, _∙_}
-use mathlib.Core.Bool.{true, false}
-use lib.ListN.{getD}
-use Rattle.samples.specs.Layout.{sampleBytes, firstChip}
+use mathlib.Core.Path.{sym, _∙_}
 use Rattle.samples.proofs.SampleLaws.{sample-before, sample-after, sample-trace}
 use Rattle.samples.proofs.sample.sample_byte.Statement.{statement}
 use Rattle.samples.proofs.sample.sample_byte.Tie as tie

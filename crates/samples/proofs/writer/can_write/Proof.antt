@@ -2,13 +2,12 @@
 -- Assumes nothing.
 use borrow.Author.Needs.{needs}
 use Prim.Native.Nat.{ℕ, _<_, _^_}
-use native.Mathlib.Omega.{arith}
-use mathlib.Core.Path.{_≡_, refl, sym, ap, _∙_}
-use mathlib.Core.Bool.{Bool, true, false, _||_}
-use lib.ListN.{getD, length}
+use mathlib.Core.Path.{_≡_, sym, ap, _∙_}
+use mathlib.Core.Bool.{Bool, true, _||_}
+use lib.ListN.{getD}
 use mir.Syntax.{w32}
 use mir.Val.{Fits}
-use Rattle.samples.specs.Layout.{resource, counterWidths}
+use Rattle.samples.specs.Layout.{counterWidths}
 use Rattle.samples.specs.Write.{allZero, within}
 use Rattle.samples.proofs.WriteLaws.{refuse-header, refuse-stamp, refuse-user, counters-decide, within-each}
 use Rattle.samples.proofs.writer.can_write.Statement.{statement}

@@ -1,16 +1,16 @@
 -- `samples::writer::fill` meets its contract: after i turns the buffer holds the first i words, and the rest as it was.
 -- Assumes nothing.
-use Prim.Native.Nat.{suc, _≤_, _<_, _-_}
+use Prim.Native.Nat.{_≤_, _-_}
 use native.Mathlib.Omega.{arith}
 use native.Mathlib.Numerals.{add-one}
 use borrow.Author.Needs.{needs}
-use mathlib.Core.Path.{_≡_, refl, sym, ap, ap₂, _∙_, subst}
+use mathlib.Core.Path.{_≡_, refl, sym, ap, ap₂, _∙_}
 use mathlib.Core.List.{List, _++_}
 use lib.Dec.{eqb}
 use lib.ListN.{length, getD, take, drop, set, length-set}
 use Rattle.words.specs.Word.{wordOf}
 use Rattle.words.proofs.FillLaws.{fill-suc, fill-all}
-use Rattle.samples.specs.Layout.{sampleWords, sampleBytes, firstChip}
+use Rattle.samples.specs.Layout.{sampleWords, firstChip}
 use Rattle.samples.proofs.SampleLaws.{sample-length, sample-word}
 use Rattle.samples.proofs.writer.fill.Statement.{statement}
 use Rattle.samples.proofs.writer.fill.Tie as tie

@@ -1,8 +1,7 @@
 -- `words::byte::byte_at` meets its contract: a shift by eight bits a place is a division by 256 a place, and a number of 64 bits
 -- has no ninth byte. Assumes nothing.
 use borrow.Author.Needs.{needs}
-use native.Mathlib.Omega.{arith}
-use mathlib.Core.Path.{_≡_, sym}
+use mathlib.Core.Path.{sym}
 use Rattle.words.proofs.ByteLaws.{bytes-bits, byte-past}
 use Rattle.words.proofs.byte.byte_at.Statement.{statement}
 use Rattle.words.proofs.byte.byte_at.Tie as tie

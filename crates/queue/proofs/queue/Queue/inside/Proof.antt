@@ -1,6 +1,6 @@
 -- `queue::queue::Queue::inside` meets its contract: each return is one case of the test. Assumes nothing.
 use borrow.Author.Needs.{needs}
-use mathlib.Core.Path.{ap, sym}
+use mathlib.Core.Path.{ap}
 use lib.Dec.{ltb}
 use borrow.Author.Tests.{le-leb, lt-leb, eq-eqb, ne-eqb}
 use Rattle.queue.proofs.queue.Queue.inside.Statement.{statement}

@@ -1,11 +1,10 @@
 -- `queue::queue::Queue::shifted` meets its contract: the last seven of eight places, and an empty one. Assumes nothing.
 use borrow.Author.Needs.{needs}
 use mathlib.Core.Path.{_≡_, ap, _∙_}
-use mathlib.Core.List.{List, [], _∷_}
+use mathlib.Core.List.{[], _∷_}
 use lib.ListN.{length, getD, length-map}
 use Rattle.queue.specs.Queue.{zeroHeld}
 use Rattle.queue.specs.declared.queue.Held.{Held}
-use Rattle.queue.specs.declared.queue.Queue.{Queue}
 use Rattle.queue.proofs.QueueLaws.{seven}
 use Rattle.queue.proofs.queue.Queue.shifted.Statement.{statement}
 use Rattle.queue.proofs.queue.Queue.shifted.Tie as tie
