@@ -5,12 +5,11 @@ use native.Mathlib.Nat.{mod-lt, zero-lt-suc}
 use native.Mathlib.Omega.{arith}
 use mathlib.Core.Path.{_≡_, refl, sym, ap, _∙_, subst}
 use mathlib.Core.Bool.{Bool, true, false, cond, not, _&&_, and-false}
-use lib.Dec.{ltb, eqb}
+use lib.Dec.{eqb}
 use lib.ListN.{getD, length}
-use borrow.Author.Tests.{eqb-false, lt-ltb, ltb-true}
+use borrow.Author.Tests.{eqb-false}
 use Rattle.samples.specs.Layout.{counterWidths}
 use Rattle.samples.specs.Write.{within}
-use Rattle.samples.proofs.Gather.{both-left, both-right}
 use Rattle.counters.specs.Bank.{bit, cleared, copied, counting, grown}
 use Rattle.counters.specs.Due.{due, signalled, slowEvents, ticked}
 use Rattle.counters.specs.declared.bank.Bank.{Bank}

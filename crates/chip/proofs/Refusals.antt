@@ -1,12 +1,9 @@
 -- The table's columns "Value" and "Record" for every reply but 0: each arm of the definitions gives what its row says. Assumes nothing.
 use Prim.Native.Nat.{ℕ, _^_}
-use native.Mathlib.Omega.{arith}
-use mathlib.Core.Path.{_≡_, refl, sym, ap, _∙_, subst}
+use mathlib.Core.Path.{_≡_, refl, ap, subst}
 use mathlib.Core.Bool.{Bool, true, false, cond, _&&_, false≢true}
-use mathlib.Core.List.{List, [], _∷_}
-use lib.Dec.{leb, ltb, eqb}
-use lib.ListN.{getD}
-use borrow.Author.Tests.{lt-leb, ltb-true, ltb-false}
+use lib.Dec.{leb, eqb}
+use borrow.Author.Tests.{lt-leb}
 use Rattle.queue.specs.Queue.{advanced, busy, full, nextWord}
 use Rattle.chip.specs.Chip.{afterTicks, blocked, done, externalEvents, fateOf, inside, lineOf, nodeTicks, oneLine, read, readAt, readCounter, replied, send, sendInto, sendNow, timestampTicks, trigger, triggerBy, withControl, withQueue, write, writeAt}
 use Rattle.chip.specs.Control.{overran, waited}

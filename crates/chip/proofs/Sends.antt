@@ -16,9 +16,9 @@ use Rattle.chip.specs.Operation.{opFill, opSend, step}
 use Rattle.chip.specs.Repeat.{given, repeat}
 use Rattle.chip.specs.declared.chip.Answer.{Answer}
 use Rattle.chip.specs.declared.chip.Chip.{Chip}
-use Rattle.chip.specs.declared.reply.Reply.the-variants.{Done, NoWord, Outside}
+use Rattle.chip.specs.declared.reply.Reply.the-variants.{Done, NoWord}
 use Rattle.chip.proofs.Bounds.{keeps-inside}
-use Rattle.chip.proofs.ChipLaws.{guard-in, guard-out}
+use Rattle.chip.proofs.ChipLaws.{guard-in}
 
 -- ---- one send
 

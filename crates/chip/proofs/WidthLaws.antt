@@ -1,11 +1,11 @@
 -- Laws of numbers of one width: a list of them stays one under a change at a place or at each place. Assumes nothing.
 use Prim.Native.Nat.{ℕ, zero, suc, _^_, _<_}
 use native.Mathlib.Nat.{one-le-pow, zero-lt-suc}
-use mathlib.Core.Path.{_≡_, refl, ap}
+use mathlib.Core.Path.{_≡_}
 use mathlib.Core.Bool.{true, _&&_, false≢true}
 use mathlib.Core.List.{List, [], _∷_}
 use lib.Dec.{ltb}
-use lib.ListN.{getD, length, replicate, set}
+use lib.ListN.{getD, replicate, set}
 use borrow.Author.Tests.{lt-ltb, ltb-true}
 use Rattle.samples.specs.Write.{within}
 use Rattle.samples.proofs.Gather.{both-left, both-right}
@@ -24,13 +24,6 @@ module _ (k : ℕ) where
   cons-in : (n v : ℕ) (vs : List ℕ) → v < 256 ^ k → within (replicate n k) vs ≡ true → within (replicate (suc n) k) (v ∷ vs) ≡ true
   unfolding within
   cons-in n v vs h e = λ i. lt-ltb v (256 ^ k) h i && e i
-
-  pub within-length : (n : ℕ) (vs : List ℕ) → within (replicate n k) vs ≡ true → length vs ≡ n
-  unfolding within
-  within-length zero [] e = refl
-  within-length zero (v ∷ vs) e = absurd (false≢true e)
-  within-length (suc n) [] e = absurd (false≢true e)
-  within-length (suc n) (v ∷ vs) e = ap suc (within-length n vs (rest-in n v vs e))
 
   pub within-at : (n : ℕ) (vs : List ℕ) → within (replicate n k) vs ≡ true → (i : ℕ) → getD vs i 0 < 256 ^ k
   unfolding within

@@ -8,40 +8,38 @@ use mathlib.Core.Bool.{Bool, true, false, cond, _&&_, _||_, false≢true}
 use mathlib.Core.List.{List, _++_}
 use lib.Count.{onesIn, trailingZeros, under}
 use lib.Dec.{eqb, leb, ltb}
-use lib.ListN.{drop, getD, length, replicate, take, length-drop}
+use lib.ListN.{drop, length, replicate, take, length-drop}
 use lib.Seq.{length-take-le}
 use borrow.Author.Tests.{eq-eqb, eqb-true, lt-ltb, ne-eqb}
 use Rattle.samples.specs.Layout.{counterWidths, firstChip, resource, sampleLength, sampleWords}
 use Rattle.samples.specs.Read.{readPart}
 use Rattle.samples.specs.Write.{allZero, within, writable}
 use Rattle.samples.specs.declared.reader.Answer.the-variants.{Good}
+use Rattle.samples.proofs.RoundTrip.{within-length}
 use Rattle.samples.proofs.SampleLaws.{sample-length}
-use Rattle.samples.proofs.Theorems.{read-written}
+use Rattle.samples.proofs.Theorems.{read-written, within-kind, zeros-kind}
 use Rattle.counters.specs.Bank.{copied}
-use Rattle.queue.specs.Queue.{advanced, firstCount, firstHeld, heldSample, sendWords}
+use Rattle.queue.specs.Queue.{firstCount, firstHeld, heldSample, sendWords}
 use Rattle.queue.specs.declared.queue.Held.{Held}
-use Rattle.queue.specs.declared.queue.Queue.{Queue}
-use Rattle.queue.proofs.CountLaws.{send-first, sentMore, words-first}
+use Rattle.queue.proofs.CountLaws.{words-first}
 use Rattle.queue.proofs.QueueLaws.{held-sixteen}
-use Rattle.chip.specs.Chip.{done, fateOf, headerOf, inside, lineOf, oneLine, replied, sampleNow, takeSample, trigger, triggerBy, withQueue, write, writeAt}
+use Rattle.chip.specs.Chip.{done, fateOf, headerOf, inside, lineOf, oneLine, replied, sampleNow, takeSample, trigger, triggerBy, write, writeAt}
 use Rattle.chip.specs.Fate.{Fate, isOff, isFiltered, isLost, isTold, isTaken}
 use Rattle.chip.specs.Place.{placeOf}
 use Rattle.chip.specs.Reply.{replyNumber}
 use Rattle.chip.specs.Rows.{triggering}
 use Rattle.chip.specs.Sent.{firstWords, takenSample}
 use Rattle.chip.specs.Operation.{opSend, opWrite, step}
-use Rattle.chip.specs.Repeat.{given, repeat}
+use Rattle.chip.specs.Repeat.{given}
 use Rattle.chip.specs.Shape.{Shaped}
-use Rattle.chip.specs.declared.chip.Answer.{Answer}
 use Rattle.chip.specs.declared.chip.Chip.{Chip}
 use Rattle.chip.specs.declared.place.Place.{Place}
 use Rattle.chip.specs.declared.place.Place.the-variants.{Trace, Resource}
 use Rattle.chip.specs.declared.reply.Reply.{Reply}
 use Rattle.chip.specs.declared.reply.Reply.the-variants.{Done, Lines, Off, Filtered, Lost, Wait, Outside}
 use Rattle.chip.proofs.AddressLaws.{place-trigger}
-use Rattle.chip.proofs.Bounds.{repeat-inside}
-use Rattle.chip.proofs.Sends.{given-sends, repeat-sends, send-word}
-use Rattle.chip.proofs.WidthLaws.{within-at, within-length}
+use Rattle.chip.proofs.Sends.{given-sends}
+use Rattle.chip.proofs.WidthLaws.{within-at}
 
 -- ---- the words of the sample that is being sent
 
@@ -49,7 +47,7 @@ module _ (c : Chip) (h : inside c ≡ true) (some : c .queue .held ≡ 0 → ⊥
   -- k sends give k of them, from the first one that is not sent yet
   pub words-after : (k : ℕ) → Shaped c → c .queue .sent + k ≤ firstCount (c .queue) → given k opSend c ≡ take k (drop (c .queue .sent) (firstWords c))
   words-after k s p =
-      let sixteen : length (c .bank .shadows) ≡ 16 = within-length 4 16 (c .bank .shadows) (s .shadows) in
+      let sixteen : length (c .bank .shadows) ≡ 16 = within-length counterWidths (c .bank .shadows) (s .shadows) in
       let ws : List ℕ = firstWords c in
       let long : length ws ≡ firstCount (c .queue) = sample-length firstChip (heldSample (c .bank .shadows) (firstHeld (c .queue))) (held-sixteen (c .bank .shadows) (firstHeld (c .queue)) sixteen) in
       let words : sendWords k (c .bank .shadows) (c .queue) ≡ take k (drop (c .queue .sent) ws) = words-first k (c .bank .shadows) (c .queue) sixteen some p in
@@ -86,17 +84,6 @@ module _ (line : ℕ) (small : line < 8) where
   header-kind false true = ne-eqb (headerOf line false true / 8 % 2) 1 (λ e. omega arith)
   header-kind false false = ne-eqb (headerOf line false false / 8 % 2) 1 (λ e. omega arith)
 
--- the sixteen counters of a sample: the shadows' for a Resource sample, and zeros else
-kind-within : (r : Bool) (cs : List ℕ) → (r ≡ true → within counterWidths cs ≡ true) → within counterWidths (cond r cs (replicate 16 0)) ≡ true
-unfolding within
-kind-within true cs e = e refl
-kind-within false cs e = refl
-
-kind-zeros : (r : Bool) (cs : List ℕ) → (r || allZero (cond r cs (replicate 16 0))) ≡ true
-unfolding allZero
-kind-zeros true cs = refl
-kind-zeros false cs = refl
-
 -- a held sample that the writer takes
 held-writable : (shadows : List ℕ) (x : Held) → x .header < 32 → x .source < 256 ^ 4 → x .stamp < 256 ^ 5 → x .user < 256 ^ 6 → (resource (x .header) ≡ true → within counterWidths shadows ≡ true) → writable firstChip (heldSample shadows x) ≡ true
 unfolding writable within
@@ -106,8 +93,8 @@ held-writable shadows x h s t u w =
     let source : ltb (x .source) (256 ^ 4) ≡ true = lt-ltb (x .source) (256 ^ 4) s in
     let stamp : ltb (x .stamp) (256 ^ 5) ≡ true = lt-ltb (x .stamp) (256 ^ 5) t in
     let user : ltb (x .user) (256 ^ 6) ≡ true = lt-ltb (x .user) (256 ^ 6) u in
-    let counters : within counterWidths (cond (resource (x .header)) shadows (replicate 16 0)) ≡ true = kind-within (resource (x .header)) shadows w in
-    let zeros : (resource (x .header) || allZero (cond (resource (x .header)) shadows (replicate 16 0))) ≡ true = kind-zeros (resource (x .header)) shadows in
+    let counters : within counterWidths (cond (resource (x .header)) shadows (replicate 16 0)) ≡ true = within-kind (resource (x .header)) shadows w in
+    let zeros : (resource (x .header) || allZero (cond (resource (x .header)) shadows (replicate 16 0))) ≡ true = zeros-kind (resource (x .header)) shadows in
     λ i. (header i && (source i && (stamp i && (user i && true)))) && (counters i && (small i && zeros i))
 
 module _ (r : Bool) (line word : ℕ) (c : Chip) (small : line < 8) (s : Shaped c) where

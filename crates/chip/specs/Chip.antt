@@ -1,6 +1,6 @@
 -- Document 01, "The chip's operations": the record, and what each operation answers and leaves.
 use Prim.Native.Nat.{ℕ, _+_, _*_, _%_, _^_}
-use mathlib.Core.Bool.{Bool, true, false, cond, not, _&&_, _||_}
+use mathlib.Core.Bool.{Bool, true, false, cond, _&&_, _||_}
 use mathlib.Core.List.{List}
 use lib.Count.{onesIn, trailingZeros}
 use lib.Dec.{ltb, eqb}

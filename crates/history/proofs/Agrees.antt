@@ -1,17 +1,14 @@
 -- The relation between a ledger and a chip's record: every part of the record is a function of the ledger, but for the queue, which holds
 -- what the ledger says is held, and the shadows, which matter only to that. Assumes nothing.
-use Prim.Native.Nat.{ℕ, zero, suc, _+_, _-_, _%_, _^_, _≤_, _<_}
-use native.Mathlib.Nat.{mod-lt, zero-lt-suc, lt-irrefl, suc-ne-zero}
-use native.Mathlib.Omega.{arith}
-use mathlib.Core.Path.{_≡_, refl, sym, ap, ap₂, _∙_, subst}
-use mathlib.Core.Bool.{Bool, true, false, cond, _&&_, _||_}
-use mathlib.Core.List.{List, [], _∷_, _++_, map}
-use lib.Dec.{ltb}
-use lib.ListN.{length, replicate}
+use Prim.Native.Nat.{ℕ, _-_, _%_, _^_}
+use native.Mathlib.Nat.{mod-lt, zero-lt-suc}
+use mathlib.Core.Path.{_≡_, ap₂, subst}
+use mathlib.Core.Bool.{Bool, true, _&&_}
+use mathlib.Core.List.{List, map}
+use lib.ListN.{length}
 use lib.Pow.{pow-pos}
 use borrow.Author.Tests.{lt-ltb}
 use Rattle.counters.specs.declared.switches.Switches.{Switches}
-use Rattle.queue.specs.Queue.{insideQueue}
 use Rattle.queue.specs.declared.queue.Queue.{Queue}
 use Rattle.chip.specs.Chip.{guarded, inside}
 use Rattle.chip.specs.Reply.{replyNumber}

@@ -1,13 +1,13 @@
 -- Laws of the samples taken and the words sent: which are held, and how many words of the first of those are sent, by induction on the
 -- samples; a sample with sixteen counters has as many words as its length says. Assumes nothing.
-use Prim.Native.Nat.{ℕ, zero, suc, _+_, _-_, _≤_, _<_}
-use native.Mathlib.Nat.{add-sub-of-le, not-suc-le-zero, lt-irrefl, lt-of-lt-of-le, add-assoc}
+use Prim.Native.Nat.{ℕ, _+_, _-_, _≤_, _<_}
+use native.Mathlib.Nat.{add-sub-of-le, not-suc-le-zero, add-assoc}
 use native.Mathlib.Omega.{arith}
 use mathlib.Core.Path.{_≡_, refl, sym, ap, ap₂, _∙_, subst}
 use mathlib.Core.Bool.{Bool, true, false, cond}
 use mathlib.Core.List.{List, [], _∷_, _++_, append-assoc, append-nil}
 use lib.Dec.{leb}
-use lib.ListN.{length, take, drop, getD, length-append}
+use lib.ListN.{length, drop, length-append}
 use lib.Seq.{drop-append-add}
 use borrow.Author.Tests.{le-leb, lt-leb, leb-true, leb-false}
 use Rattle.samples.specs.Layout.{firstChip, resource, sampleLength, sampleWords}

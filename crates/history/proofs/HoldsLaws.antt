@@ -1,22 +1,23 @@
 -- The queue and the ledger's stream: the places hold the samples that the list says are held, and the words go out in order.
 -- Assumes nothing.
-use Prim.Native.Nat.{ℕ, zero, suc, _+_, _-_, _≤_, _<_, min}
-use native.Mathlib.Nat.{not-suc-le-zero, suc-ne-zero, lt-of-lt-of-le, le-of-lt, lt-irrefl, add-zero}
+use Prim.Native.Nat.{ℕ, zero, suc, _+_, _-_, _≤_, _<_}
+use native.Mathlib.Nat.{not-suc-le-zero, suc-ne-zero, add-zero}
 use native.Mathlib.Numerals.{add-one}
 use native.Mathlib.Omega.{arith}
 use mathlib.Core.Path.{_≡_, refl, sym, ap, ap₂, _∙_, subst}
-use mathlib.Core.Bool.{Bool, true, false, cond, _&&_, _||_, false≢true}
+use mathlib.Core.Bool.{Bool, true, false, cond, _||_, false≢true}
 use mathlib.Core.List.{List, [], _∷_, _++_, map, map-append}
-use lib.Dec.{leb, ltb, eqb}
+use lib.Dec.{leb, ltb}
 use lib.ListN.{length, take, drop, getD, set, replicate, length-append, length-map, length-set, length-drop}
-use lib.Seq.{take-suc-set, length-take-le, take-append-le, drop-cons, getD-append-add, getD-drop}
+use lib.Seq.{take-suc-set, length-take-le, take-append-le, getD-drop}
 use lib.ListN.{List·getD-append}
-use borrow.Author.Tests.{le-leb, lt-ltb, le-ltb, eq-eqb, ltb-true, ltb-false, eqb-true, eqb-false}
-use Rattle.samples.specs.Layout.{firstChip, resource, sampleLength, sampleWords}
+use borrow.Author.Tests.{lt-ltb, ltb-true, ltb-false}
+use Rattle.samples.specs.Layout.{firstChip, resource, sampleWords}
 use Rattle.samples.specs.declared.sample.Sample.{Sample}
 use Rattle.queue.specs.Queue.{advanced, anyResource, busy, emptyQueue, firstCount, firstHeld, full, heldSample, insideQueue, nextWord, pushed, shifted, zeroHeld}
 use Rattle.queue.specs.declared.queue.Held.{Held}
 use Rattle.queue.specs.declared.queue.Queue.{Queue}
+use Rattle.queue.proofs.BoundLaws.{bounds-back}
 use Rattle.history.specs.Stream.{anyHeld, heldOf, isFull, lengthOf, totalOf, wordsOfAll}
 use Rattle.history.proofs.HeldLaws.{Next, Sixteen, drop-held, held-none, held-push, layout-length, next-word, offset-all, offsetOf, sixteen-held, total-more, words-length}
 
@@ -109,19 +110,16 @@ module _ (taken : List Sample) (n : ℕ) (sh : List ℕ) (q : Queue) (holds : Ho
 
   -- so the queue's counts are inside their bounds
   pub holds-inside : insideQueue q ≡ true
-  holds-inside = go (eqb (q .held) 0) refl
-    where
-      go : (b : Bool) → eqb (q .held) 0 ≡ b → (leb (q .held) 8 && cond (eqb (q .held) 0) (eqb (q .sent) 0) (ltb (q .sent) (firstCount q))) ≡ true
-      go true t =
-          let start : q .sent ≡ 0 = holds .place ∙ offset-all taken n (omega (arith, holds .enough, holds-none (eqb-true (q .held) 0 t))) in
-          ap₂ (λ (a b : Bool). a && b) (le-leb (q .held) 8 (holds .few))
-          (ap (λ (b : Bool). cond b (eqb (q .sent) 0) (ltb (q .sent) (firstCount q))) t ∙ eq-eqb (q .sent) 0 start)
-      go false t =
-          let x : Next taken n = next-word taken n (holds-some (eqb-false (q .held) 0 t)) in
-          let some : q .sent < firstCount q =
-          subst (λ (k : ℕ). k < firstCount q) (sym (holds .place)) (subst (λ (k : ℕ). offsetOf taken n < k) (sym (first-length x)) (x .unsent)) in
-          ap₂ (λ (a b : Bool). a && b) (le-leb (q .held) 8 (holds .few))
-          (ap (λ (b : Bool). cond b (eqb (q .sent) 0) (ltb (q .sent) (firstCount q))) t ∙ lt-ltb (q .sent) (firstCount q) some)
+  holds-inside =
+      bounds-back q
+      (record {
+        few = holds .few;
+        none = λ e. holds .place ∙ offset-all taken n (omega (arith, holds .enough, holds-none e));
+        some =
+            λ f.
+            let x : Next taken n = next-word taken n (holds-some f) in
+            subst (λ (k : ℕ). k < firstCount q) (sym (holds .place)) (subst (λ (k : ℕ). offsetOf taken n < k) (sym (first-length x)) (x .unsent));
+      })
 
   -- ---- a word is sent
 

@@ -1,11 +1,11 @@
 -- Every operation keeps the relation between ledger and record, and replies what the ledger says. Assumes nothing.
-use Prim.Native.Nat.{ℕ, zero, suc, _+_, _-_, _*_, _/_, _%_, _^_, _≤_, _<_, min}
-use native.Mathlib.Nat.{add-zero, add-comm, add-assoc, min-zero, mod-add-mod}
+use Prim.Native.Nat.{ℕ, zero, suc, _+_, _-_, _/_, _%_, _^_, _<_, min}
+use native.Mathlib.Nat.{mod-add-mod}
 use native.Mathlib.Numerals.{add-one}
 use native.Mathlib.Omega.{arith}
 use mathlib.Core.Path.{_≡_, refl, sym, ap, ap₂, _∙_, subst}
 use mathlib.Core.Bool.{Bool, true, false, cond, _&&_}
-use mathlib.Core.List.{List, [], _∷_, _++_, map}
+use mathlib.Core.List.{List, [], _∷_, map}
 use lib.Dec.{eqb}
 use lib.ListN.{length, take, drop, getD, replicate, length-drop}
 use lib.Seq.{drop-cons, length-take-le}
@@ -14,11 +14,9 @@ use borrow.Author.Tests.{eq-eqb, ne-eqb, eqb-true, eqb-false}
 use Rattle.counters.specs.Bank.{bit, copied, each, grown}
 use Rattle.counters.specs.declared.bank.Bank.{Bank}
 use Rattle.counters.specs.declared.switches.Kind.the-variants.{Slow, External, Software, Node}
-use Rattle.counters.specs.declared.switches.Switches.{Switches}
 use Rattle.counters.proofs.EachLaws.{each-length}
-use Rattle.queue.specs.Queue.{advanced, busy, emptyQueue, full, nextWord, sendMany, sendQueue, sendWords}
+use Rattle.queue.specs.Queue.{advanced, busy, emptyQueue, nextWord, sendMany, sendQueue, sendWords}
 use Rattle.queue.specs.declared.queue.Queue.{Queue}
-use Rattle.queue.proofs.SendLaws.{send-none, send-suc}
 use Rattle.chip.specs.Chip.{afterTicks, done, externalEvents, nodeTicks, read, readAt, readCounter, replied, send, sendInto, sendNow, timestampTicks, withBank, withControl, withQueue, write, writeAt}
 use Rattle.chip.specs.Control.{csrOf, waited}
 use Rattle.chip.specs.Operation.{Operation, opReset, opWrite, opRead, opTicks, opNodes, opEvents, opSend, opFill, step}
@@ -30,7 +28,7 @@ use Rattle.chip.specs.declared.place.Place.{Place}
 use Rattle.chip.specs.declared.place.Place.the-variants.{Beyond, Nowhere, Reset, Csr, Timestamp, Filter, Waits, Overruns, Mux, Clear, Enable, Disable, Source, Counter, Trace, Resource}
 use Rattle.chip.specs.declared.reply.Reply.the-variants.{Busy, NoWord, Wait}
 use Rattle.history.specs.Ledger.{Ledger, Told, dueTo, happened, held, left, readIn, resetAt, sentMore, slowIn, tells, toldOf, waitedOne, withErrors, withEvents, withStream, withTicks, written}
-use Rattle.history.specs.Stream.{anyHeld, isFull, totalOf, wordsOfAll}
+use Rattle.history.specs.Stream.{anyHeld, totalOf, wordsOfAll}
 use Rattle.history.proofs.Agrees.{Agrees, Good, Kept, chipFor, controlOf, kept-guarded}
 use Rattle.history.proofs.CountLaws.{phase-same, slow-same, wrapped, wrapped-at, wrapped-clear, wrapped-events}
 use Rattle.history.proofs.HeldLaws.{Sixteen, words-total}

@@ -1,20 +1,18 @@
 -- The words that the chip gave, and those it will give, are those of the ledger's samples. Assumes nothing.
 use Prim.Native.Nat.{ℕ, zero, suc, _+_, _-_, _*_, _%_, _^_, _≤_, _<_, min}
-use native.Mathlib.Nat.{add-zero, zero-add, le-refl, min-zero, suc-ne-zero}
-use native.Mathlib.Numerals.{add-one}
 use native.Mathlib.Omega.{arith}
 use mathlib.Core.Path.{_≡_, refl, sym, ap, ap₂, _∙_, subst}
 use mathlib.Core.Bool.{Bool, true, false, cond, false≢true}
 use mathlib.Core.List.{List, [], _∷_, _++_, append-nil}
-use lib.Dec.{eqb, leb, ltb}
+use lib.Dec.{eqb, leb}
 use lib.ListN.{length, take, drop, getD, replicate, length-drop, length-replicate, drop-of-length-le}
 use lib.Seq.{drop-cons, take-add, take-append-le, take-at, take-suc, length-take-le}
 use borrow.Author.Tests.{ne-eqb, eqb-true, eqb-false, leb-true}
-use Rattle.samples.specs.Layout.{firstChip, resource, sampleLength, sampleWords}
+use Rattle.samples.specs.Layout.{firstChip, resource, sampleWords}
 use Rattle.samples.specs.declared.sample.Sample.{Sample}
 use Rattle.queue.specs.Queue.{sendBuffer, sendWords}
 use Rattle.queue.specs.declared.queue.Queue.{Queue}
-use Rattle.chip.specs.Chip.{fresh, inside, lineOf, oneLine, sentBuffer}
+use Rattle.chip.specs.Chip.{inside, lineOf, oneLine, sentBuffer}
 use Rattle.chip.specs.Fate.{Fate, isOff, isFiltered, isLost, isTold, isTaken}
 use Rattle.chip.specs.Operation.{Operation, opReset, opWrite, opRead, opTicks, opNodes, opEvents, opSend, opFill, step}
 use Rattle.chip.specs.Place.{placeOf, registerOf}
@@ -26,9 +24,8 @@ use Rattle.history.specs.Ledger.{Ledger, Told, byFate, fateIn, held, lef
 use Rattle.history.specs.Run.{comeWithin, streamAfter}
 use Rattle.history.specs.Stream.{anyHeld, heldOf, lengthOf, totalOf, wordsOfAll}
 use Rattle.chip.proofs.AddressLaws.{place-test}
-use Rattle.history.proofs.Agrees.{Agrees, Good, Kept, chipFor, for-inside}
-use Rattle.history.proofs.HeldLaws.{Sixteen, held-past, held-here, words-more, words-total}
-use Rattle.history.proofs.HoldsLaws.{Holds}
+use Rattle.history.proofs.Agrees.{Agrees, Kept, chipFor, for-inside}
+use Rattle.history.proofs.HeldLaws.{words-more, words-total}
 use Rattle.history.proofs.Steps.{agrees-step, many}
 
 -- ---- only a write at address 0 is a software reset

@@ -1,37 +1,33 @@
 -- A trigger does to the chip what its fate by the list says. Assumes nothing.
-use Prim.Native.Nat.{ℕ, zero, suc, _+_, _-_, _*_, _/_, _%_, _^_, _≤_, _<_, suc-le-suc}
-use native.Mathlib.Nat.{mod-lt, zero-lt-suc, suc-ne-zero, not-suc-le-zero, le-of-suc-le-suc}
-use native.Mathlib.Omega.{arith}
+use Prim.Native.Nat.{ℕ, _+_, _-_, _%_, _^_, _<_}
+use native.Mathlib.Nat.{suc-ne-zero}
 use mathlib.Core.Path.{_≡_, refl, sym, ap, ap₂, _∙_, subst}
 use mathlib.Core.Bool.{Bool, true, false, cond, _&&_, _||_, false≢true}
 use mathlib.Core.List.{List, [], _∷_, _++_, map}
-use lib.Count.{onesIn, trailingZeros, under}
-use lib.Dec.{eqb, leb}
 use lib.ListN.{length, getD, replicate, length-map}
 use lib.Pow.{mod-mod-pow}
-use borrow.Author.Tests.{eqb-true, eq-eqb, ne-eqb, leb-false}
+use borrow.Author.Tests.{leb-false}
 use Rattle.samples.specs.Layout.{resource}
 use Rattle.samples.specs.declared.sample.Sample.{Sample}
 use Rattle.counters.specs.Bank.{bit, copied}
 use Rattle.queue.specs.Queue.{busy, full, heldSample, pushed}
 use Rattle.queue.specs.declared.queue.Held.{Held}
 use Rattle.queue.specs.declared.queue.Queue.{Queue}
-use Rattle.chip.specs.Chip.{blocked, done, fateOf, headerOf, lacksRoom, lineOf, oneLine, replied, sampleNow, takeSample, trigger, triggerBy, withControl}
-use Rattle.chip.specs.Control.{one, overran, waited}
+use Rattle.chip.specs.Chip.{blocked, fateOf, headerOf, lacksRoom, lineOf, oneLine, replied, sampleNow, trigger, triggerBy, withControl}
+use Rattle.chip.specs.Control.{overran, waited}
 use Rattle.chip.specs.Control.{withErrors as Control·withErrors}
 use Rattle.chip.specs.Fate.{Fate, fate, fateReply, isOff, isFiltered, isLost, isTold, isTaken}
 use Rattle.chip.specs.Reply.{replyNumber}
 use Rattle.chip.proofs.Words.{header-kind, line-below}
-use Rattle.chip.specs.declared.chip.Answer.{Answer}
 use Rattle.chip.specs.declared.chip.Chip.{Chip}
 use Rattle.chip.specs.declared.control.Control.{Control}
 use Rattle.counters.specs.declared.bank.Bank.{Bank}
-use Rattle.chip.specs.declared.reply.Reply.the-variants.{Lines, Lost, Wait}
+use Rattle.chip.specs.declared.reply.Reply.the-variants.{Lines, Wait}
 use Rattle.history.specs.Ledger.{Ledger, byFate, fateIn, held, lostOne, sampleIn, tells, triggered, unmarked, waitedOne, withErrors}
-use Rattle.history.specs.Stream.{anyHeld, heldOf, isBlocked, isFull}
-use Rattle.history.proofs.Agrees.{Agrees, Good, Kept, chipFor, controlOf, switchesOf}
+use Rattle.history.specs.Stream.{anyHeld, isBlocked, isFull}
+use Rattle.history.proofs.Agrees.{Good, Kept, chipFor, controlOf, switchesOf}
 use Rattle.history.proofs.CountLaws.{wrapped, wrapped-grown}
-use Rattle.history.proofs.HeldLaws.{Sixteen, sixteen-more}
+use Rattle.history.proofs.HeldLaws.{sixteen-more}
 use Rattle.history.proofs.HoldsLaws.{Holds, holds-busy, holds-copied, holds-full, holds-pushed}
 
 -- only a trigger that lacks no room is taken

@@ -4,7 +4,7 @@ use mathlib.Core.List.{List, [], _∷_, _++_}
 use lib.ListN.{replicate}
 use Rattle.samples.specs.Layout.{firstChip, sampleWords}
 use Rattle.samples.specs.declared.sample.Sample.{Sample}
-use Rattle.chip.specs.Operation.{Operation, opWrite, opRead, opTicks, opNodes, opEvents, opSend}
+use Rattle.chip.specs.Operation.{opWrite, opRead, opTicks, opNodes, opEvents, opSend}
 use Rattle.marked.specs.Table.{Line, Row, bytesAre, gives, readerSays, replies, script}
 
 -- "sampling on, level 0 on"

@@ -82,12 +82,12 @@ header-passed n [] good = absurd (false≢true good)
 header-passed n (w ∷ ws) good = lt-ltb (byteOf w) 32 (leb-false 32 (byteOf w) (first-passed n 0 w ws good .2))
 
 -- a Trace sample's counters are zeros, and a Resource sample's what was read
-within-kind : (r : Bool) (cs : List ℕ) → within counterWidths cs ≡ true → within counterWidths (cond r cs (replicate 16 0)) ≡ true
+pub within-kind : (r : Bool) (cs : List ℕ) → (r ≡ true → within counterWidths cs ≡ true) → within counterWidths (cond r cs (replicate 16 0)) ≡ true
 unfolding within
-within-kind true cs e = e
+within-kind true cs e = e refl
 within-kind false cs e = refl
 
-zeros-kind : (r : Bool) (cs : List ℕ) → (r || allZero (cond r cs (replicate 16 0))) ≡ true
+pub zeros-kind : (r : Bool) (cs : List ℕ) → (r || allZero (cond r cs (replicate 16 0))) ≡ true
 unfolding allZero
 zeros-kind true cs = refl
 zeros-kind false cs = refl
@@ -137,7 +137,7 @@ module _ (w : Widths) (ws : List ℕ) (taken : isGood (readPart w ws .answer) �
       let cs : List ℕ = gather counterWidths (drop (total (fieldWidths w)) bs) in
       let fields : within (fieldWidths w) (gather (fieldWidths w) bs) ≡ true = within-gather (fieldWidths w) bs (map-below ws) in
       let counters : within counterWidths (cond (resource h) cs (replicate 16 0)) ≡ true =
-      within-kind (resource h) cs (within-gather counterWidths (drop (total (fieldWidths w)) bs) (drop-below (total (fieldWidths w)) bs (map-below ws))) in
+      within-kind (resource h) cs (λ e. within-gather counterWidths (drop (total (fieldWidths w)) bs) (drop-below (total (fieldWidths w)) bs (map-below ws))) in
       let small : ltb h 32 ≡ true = ap (λ (x : ℕ). ltb x 32) (header-byte ws) ∙ header-passed (wanted w ws) ws accepted-scan in
       let zeros : (resource h || allZero (cond (resource h) cs (replicate 16 0))) ≡ true = zeros-kind (resource h) cs in
       λ i. fields i && (counters i && (small i && zeros i))

@@ -1,17 +1,16 @@
 -- A block with room for its records gives their whole text, and an input cut at the end of a record gives the chip and the text of the
 -- whole: so it doesn't matter in which blocks an input is read. Assumes nothing.
-use Prim.Native.Nat.{ℕ, zero, suc, _+_, _*_, _/_, _≤_}
+use Prim.Native.Nat.{ℕ, zero, suc, _+_, _*_, _≤_}
 use native.Mathlib.Nat.{add-suc, add-zero}
 use native.Mathlib.Omega.{arith}
 use mathlib.Core.Path.{_≡_, refl, sym, ap, ap₂, _∙_}
-use mathlib.Core.List.{List, [], _++_, append-assoc, append-nil}
+use mathlib.Core.List.{List, _++_, append-assoc, append-nil}
 use lib.ListN.{drop, length, take, length-append, length-drop}
 use lib.Seq.{drop-append-add, drop-append-le, take-append-le}
 use Rattle.chip.specs.declared.chip.Chip.{Chip}
 use Rattle.script.specs.Line.{lineOf}
 use Rattle.script.specs.Record.{operationOf, runOf}
 use Rattle.script.specs.Run.{blockBuffer, blockCount, blockOf, chipAfter, chipOf, recordCount, textAfter, textOf}
-use Rattle.script.specs.declared.block.Block.{Block}
 
 -- what the bytes of one record do to a chip, and their line
 abbrev chipBy : List ℕ → Chip → Chip

@@ -1,15 +1,13 @@
 -- `script::block::run_block` meets its contract: after i turns the chip and the text are those of the first i records, and the text is at most 42 bytes for each. Assumes nothing.
 use borrow.Author.Needs.{needs}
-use mathlib.Core.Path.{_≡_, refl, sym, ap, ap₂, _∙_}
+use mathlib.Core.Path.{_≡_, refl, ap, _∙_}
 use Prim.Native.Nat.{ℕ, _+_, _-_, _*_, _/_, _≤_, min}
 use native.Mathlib.Omega.{arith}
-use mathlib.Core.List.{List, _++_}
+use mathlib.Core.List.{_++_}
 use lib.ListN.{length, drop, take}
-use Rattle.script.specs.Line.{lineBuffer, lineEnd}
 use Rattle.script.specs.Record.{operationOf, runOf}
 use Rattle.script.specs.Run.{blockBuffer, blockCount, blockOf, chipAfter, outcomeAt, textAfter}
 use Rattle.script.specs.declared.operation.Operation.{Operation}
-use Rattle.script.specs.declared.operation.Outcome.{Outcome}
 use Rattle.script.proofs.BlockLaws.{buffer-turn, chip-turn, end-turn, front-length, record-part, text-bound}
 use Rattle.script.proofs.block.run_block.Statement.{statement}
 use Rattle.script.proofs.block.run_block.Tie as tie

@@ -1,6 +1,6 @@
 -- `script::line::put_line` meets its contract: a number, a space, a number and a newline make the line, for which 42 places are enough. Assumes nothing.
 use borrow.Author.Needs.{needs}
-use mathlib.Core.Path.{_≡_, sym, ap, _∙_}
+use mathlib.Core.Path.{sym, ap, _∙_}
 use mathlib.Core.Bool.{Bool, cond}
 use Prim.Native.Nat.{_+_}
 use native.Mathlib.Omega.{arith}

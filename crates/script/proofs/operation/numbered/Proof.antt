@@ -1,6 +1,5 @@
 -- `script::operation::numbered` meets its contract: the number is the definition's. Assumes nothing.
 use borrow.Author.Needs.{needs}
-use mathlib.Core.Path.{_≡_, refl, sym, ap, ap₂, _∙_}
 use Rattle.script.proofs.operation.numbered.Statement.{statement}
 use Rattle.script.proofs.operation.numbered.Tie as tie
 

@@ -1,11 +1,9 @@
 -- `script::operation::quad` meets its contract: four bytes, each 256 times the one before. Assumes nothing.
 use borrow.Author.Needs.{needs}
-use mathlib.Core.Path.{_≡_, refl, sym, ap, ap₂, _∙_}
-use Prim.Native.Nat.{ℕ, suc, _+_, _*_, _<_}
-use native.Mathlib.Nat.{add-zero, mul-zero}
+use mathlib.Core.Path.{_≡_}
+use Prim.Native.Nat.{_+_, _*_}
 use native.Mathlib.Omega.{arith}
-use mathlib.Core.List.{List}
-use lib.ListN.{drop, getD, length, take}
+use lib.ListN.{drop, getD, take}
 use Rattle.words.specs.Bytes.{number}
 use Rattle.script.proofs.RecordLaws.{four-bytes}
 use Rattle.script.proofs.operation.quad.Statement.{statement}

@@ -1,6 +1,6 @@
 -- `script::operation::run` meets its contract: each arm is one case of the definition. Assumes nothing.
 use borrow.Author.Needs.{needs}
-use mathlib.Core.Path.{_≡_, refl, sym, ap, ap₂, _∙_}
+use mathlib.Core.Path.{sym, ap, _∙_}
 use Rattle.script.specs.Record.{outcomeOf, runOf}
 use Rattle.script.specs.declared.operation.Operation.{Operation}
 use Rattle.script.proofs.operation.run.Statement.{statement}

@@ -1,11 +1,7 @@
 -- `script::operation::word_of` meets its contract: eight bytes are four and then four. Assumes nothing.
 use borrow.Author.Needs.{needs}
-use mathlib.Core.Path.{_≡_, refl, sym, ap, ap₂, _∙_}
+use mathlib.Core.Path.{sym, ap₂, _∙_}
 use Prim.Native.Nat.{ℕ, _+_, _*_, _^_}
-use native.Mathlib.Omega.{arith}
-use mathlib.Core.List.{List, _++_}
-use lib.ListN.{drop, length, take, take-append-drop, length-drop}
-use Rattle.words.specs.Bytes.{number}
 use Rattle.script.proofs.RecordLaws.{eight-bytes}
 use Rattle.script.proofs.operation.word_of.Statement.{statement}
 use Rattle.script.proofs.operation.word_of.Tie as tie

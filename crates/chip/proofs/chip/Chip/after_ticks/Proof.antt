@@ -1,6 +1,6 @@
 -- `chip::chip::Chip::after_ticks` meets its contract: each part after its own law. Assumes nothing.
 use borrow.Author.Needs.{needs}
-use mathlib.Core.Path.{_≡_, refl, sym, ap, ap₂, _∙_}
+use mathlib.Core.Path.{ap, _∙_}
 use Prim.Native.Nat.{ℕ, _+_, _%_, _^_}
 use Rattle.counters.specs.Due.{ticked}
 use Rattle.counters.specs.declared.switches.Kind.the-variants.{Slow}

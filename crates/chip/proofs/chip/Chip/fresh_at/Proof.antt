@@ -1,6 +1,6 @@
 -- `chip::chip::Chip::fresh_at` meets its contract: the Timestamp, zeros, and an empty queue. Assumes nothing.
 use borrow.Author.Needs.{needs}
-use mathlib.Core.Path.{_≡_, refl, sym, ap, ap₂, _∙_}
+use mathlib.Core.Path.{ap}
 use Rattle.chip.specs.Chip.{fresh, withQueue, withStamp}
 use Rattle.chip.proofs.chip.Chip.fresh_at.Statement.{statement}
 use Rattle.chip.proofs.chip.Chip.fresh_at.Tie as tie

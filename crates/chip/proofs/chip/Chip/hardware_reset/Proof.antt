@@ -1,6 +1,6 @@
 -- `chip::chip::Chip::hardware_reset` meets its contract: a fresh chip. Assumes nothing.
 use borrow.Author.Needs.{needs}
-use mathlib.Core.Path.{_≡_, refl, sym, ap, ap₂, _∙_}
+use mathlib.Core.Path.{ap, _∙_}
 use Rattle.chip.specs.Chip.{done}
 use Rattle.chip.proofs.chip.Chip.hardware_reset.Statement.{statement}
 use Rattle.chip.proofs.chip.Chip.hardware_reset.Tie as tie

@@ -1,6 +1,6 @@
 -- `chip::chip::Chip::inside` meets its contract: three tests, one after the other. Assumes nothing.
 use borrow.Author.Needs.{needs}
-use mathlib.Core.Path.{_≡_, refl, sym, ap, ap₂, _∙_}
+use mathlib.Core.Path.{ap, _∙_}
 use mathlib.Core.Bool.{Bool, _&&_, and-assoc}
 use lib.Dec.{ltb}
 use Rattle.queue.specs.Queue.{insideQueue}

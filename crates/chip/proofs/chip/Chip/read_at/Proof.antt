@@ -1,6 +1,6 @@
 -- `chip::chip::Chip::read_at` meets its contract: each arm is one case of the map. Assumes nothing.
 use borrow.Author.Needs.{needs}
-use mathlib.Core.Path.{_≡_, refl, sym, ap, ap₂, _∙_}
+use mathlib.Core.Path.{sym, ap, ap₂, _∙_}
 use Prim.Native.Nat.{ℕ}
 use mathlib.Core.Bool.{Bool}
 use Rattle.chip.specs.Chip.{done, readAt}

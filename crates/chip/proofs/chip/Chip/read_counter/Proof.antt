@@ -2,14 +2,13 @@
 use borrow.Author.Needs.{needs}
 use mathlib.Core.Path.{_≡_, refl, sym, ap, ap₂, _∙_}
 use Prim.Native.Nat.{ℕ, _^_}
-use mathlib.Core.Bool.{Bool, true, false, cond}
+use mathlib.Core.Bool.{Bool, cond}
 use lib.ListN.{getD}
 use Rattle.counters.specs.Bank.{copied}
 use Rattle.counters.specs.declared.bank.Bank.{Bank}
 use Rattle.queue.specs.Queue.{busy}
 use Rattle.chip.specs.Chip.{done, readCounter, replied, withBank, withControl}
 use Rattle.chip.specs.Control.{waited}
-use Rattle.chip.specs.declared.chip.Answer.{Answer}
 use Rattle.chip.specs.declared.chip.Chip.{Chip}
 use Rattle.chip.specs.declared.control.Control.{Control}
 use Rattle.chip.specs.declared.reply.Reply.the-variants.{Busy, Wait}

@@ -1,6 +1,6 @@
 -- `chip::chip::Chip::sample_now` meets its contract: each field as the record stands. Assumes nothing.
 use borrow.Author.Needs.{needs}
-use mathlib.Core.Path.{_≡_, refl, sym, ap, ap₂, _∙_}
+use mathlib.Core.Path.{ap₂}
 use Prim.Native.Nat.{ℕ, _+_, _*_, _%_, _^_}
 use Rattle.chip.proofs.chip.Chip.sample_now.Statement.{statement}
 use Rattle.chip.proofs.chip.Chip.sample_now.Tie as tie

@@ -1,6 +1,6 @@
 -- `chip::chip::Chip::send` meets its contract: 5 with nothing held, else the next word. Assumes nothing.
 use borrow.Author.Needs.{needs}
-use mathlib.Core.Path.{_≡_, refl, sym, ap, ap₂, _∙_}
+use mathlib.Core.Path.{sym, ap, _∙_}
 use mathlib.Core.Bool.{Bool, cond}
 use Rattle.queue.specs.Queue.{advanced, nextWord}
 use Rattle.queue.specs.declared.queue.Sent.{Sent}

@@ -1,8 +1,7 @@
 -- `chip::chip::Chip::send_into` meets its contract: the queue sends into the buffer; with 15 it is untouched. Assumes nothing.
 use borrow.Author.Needs.{needs}
-use mathlib.Core.Path.{_≡_, refl, sym, ap, ap₂, _∙_}
+use mathlib.Core.Path.{sym, ap, _∙_}
 use mathlib.Core.Bool.{Bool, cond}
-use lib.ListN.{length}
 use Rattle.queue.specs.Queue.{sendBuffer}
 use Rattle.queue.specs.declared.queue.SentMany.{SentMany}
 use Rattle.chip.specs.Chip.{done, sendInto, sentBuffer, withQueue}

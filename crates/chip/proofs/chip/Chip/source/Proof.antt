@@ -1,6 +1,6 @@
 -- `chip::chip::Chip::source` meets its contract: past the eighth there is none, and `getD` gives 0. Assumes nothing.
 use borrow.Author.Needs.{needs}
-use mathlib.Core.Path.{_≡_, refl, sym, ap, ap₂, _∙_}
+use mathlib.Core.Path.{_≡_, sym}
 use native.Mathlib.Omega.{arith}
 use lib.ListN.{length, List·getD-eq-default}
 use Rattle.chip.proofs.chip.Chip.source.Statement.{statement}

@@ -1,6 +1,6 @@
 -- `chip::chip::Chip::take` meets its contract: the parts, each after its own law. Assumes nothing.
 use borrow.Author.Needs.{needs}
-use mathlib.Core.Path.{_≡_, refl, sym, ap, ap₂, _∙_}
+use mathlib.Core.Path.{ap, _∙_}
 use Rattle.queue.specs.Queue.{pushed}
 use Rattle.chip.proofs.chip.Chip.take.Statement.{statement}
 use Rattle.chip.proofs.chip.Chip.take.Tie as tie

@@ -1,6 +1,6 @@
 -- `chip::chip::Chip::timestamp_ticks` meets its contract: inside the bounds the ticks count, else 15. Assumes nothing.
 use borrow.Author.Needs.{needs}
-use mathlib.Core.Path.{_≡_, refl, sym, ap, ap₂, _∙_}
+use mathlib.Core.Path.{sym, ap, _∙_}
 use Rattle.chip.specs.Chip.{done, timestampTicks}
 use Rattle.chip.proofs.ChipLaws.{guard-in, guard-out, inside-stamp}
 use Rattle.chip.proofs.chip.Chip.timestamp_ticks.Statement.{statement}

@@ -1,10 +1,8 @@
 -- `chip::chip::Chip::trigger` meets its contract: one active line, or 4. Assumes nothing.
 use borrow.Author.Needs.{needs}
-use mathlib.Core.Path.{_≡_, refl, sym, ap, ap₂, _∙_}
+use mathlib.Core.Path.{sym, ap, _∙_}
 use mathlib.Core.Bool.{Bool, cond}
-use Prim.Native.Nat.{ℕ}
 use lib.Count.{onesIn, trailing-le}
-use lib.Dec.{eqb}
 use borrow.Author.Tests.{eq-eqb, ne-eqb}
 use Rattle.words.proofs.WordLaws.{ones-in}
 use Rattle.chip.specs.Chip.{fateOf, lineOf, replied, trigger, triggerBy}

@@ -1,14 +1,13 @@
 -- `chip::chip::Chip::trigger_line` meets its contract: each return is one fate. Assumes nothing.
 use borrow.Author.Needs.{needs}
 use mathlib.Core.Path.{_≡_, refl, sym, ap, ap₂, _∙_}
-use mathlib.Core.Bool.{Bool, true, false, cond, _||_}
+use mathlib.Core.Bool.{Bool, _||_}
 use Prim.Native.Nat.{ℕ}
 use borrow.Author.Tests.{not-true, not-false}
 use Rattle.counters.specs.Bank.{bit}
 use Rattle.chip.specs.Chip.{done, fateOf, lacksRoom, replied, triggerBy, withControl}
-use Rattle.chip.specs.Fate.{Fate, fate}
+use Rattle.chip.specs.Fate.{fate}
 use Rattle.chip.specs.Control.{overran}
-use Rattle.chip.specs.declared.chip.Answer.{Answer}
 use Rattle.chip.specs.declared.chip.Chip.{Chip}
 use Rattle.chip.specs.declared.control.Control.{Control}
 use Rattle.chip.specs.declared.reply.Reply.the-variants.{Lost, Wait}
