@@ -2,9 +2,12 @@
 use chip::chip::Chip;
 use libc::STDIN_FILENO;
 use libc::STDOUT_FILENO;
+use script::block::Block;
 use script::block::run_block;
-ghost use Prim.Native.Nat.{_≤_};
-ghost use lib.ListN.{length};
+ghost use Prim.Native.Nat.{_*_, _%_, _≤_};
+ghost use mathlib.Core.Path.{_≡_};
+ghost use lib.ListN.{length, take};
+ghost use Rattle.script.specs.Run.{chipOf, recordCount, textOf};
 
 // The chip after a block of input, and whether there may be more.
 struct Turn {
@@ -32,10 +35,14 @@ fn main() {
     }
 }
 
-// Reads a block, runs its records and writes their lines. Only the end of the input leaves a block short.
-fn pass(chip: Chip, input: &mut [u8], text: &mut [u8]) -> Turn {
+// Reads a block, runs its records and writes their lines. A full block ends with a record, so the next one begins with a record; only the
+// end of the input, or a read that fails, leaves a block short.
+fn pass(chip: Chip, input: &mut [u8], text: &mut [u8]) -> Turn
+    requires { ⌜ length (now input) % 12 ≡ 0 ⌝ }
+    requires { ⌜ 42 * recordCount (length (now input)) ≤ length (now text) ⌝ }
+{
     let got = io::read_full(STDIN_FILENO, input);
-    let block = run_block(chip, &input[..got], text);
+    let block = run_all(chip, &input[..got], text);
     let written = block.written;
     let is_written = show(text, written);
     let next = block.chip;
@@ -43,6 +50,16 @@ fn pass(chip: Chip, input: &mut [u8], text: &mut [u8]) -> Turn {
         chip: next,
         more: is_written & (got == input.len()),
     }
+}
+
+// Runs all the records of an input, with room for all their lines: the chip after them, and their whole text.
+fn run_all(chip: Chip, input: &[u8], text: &mut [u8]) -> Block
+    requires { ⌜ 42 * recordCount (length (now input)) ≤ length (now text) ⌝ }
+    ensures { λ r. ⌜ r .chip ≡ chipOf (now (input .entry)) chip ⌝ }
+    ensures { λ r. ⌜ take (r .written) (now (text .exit)) ≡ textOf (now (input .entry)) chip ⌝ }
+    ensures { λ r. ⌜ r .written ≤ length (now (text .exit)) ⌝ }
+{
+    run_block(chip, input, text)
 }
 
 // Writes the first bytes of a text to standard output, and says whether that went well.

@@ -1,11 +1,14 @@
 -- `bench::main` meets its contract: the arrays are lent once, and the turns are counted down. Assumes nothing.
 use borrow.Author.Needs.{needs}
 use Prim.Native.Nat.{_≤_}
+use native.Mathlib.Omega.{arith}
+use mathlib.Core.Path.{_≡_}
+use lib.ListN.{length}
 use Rattle.bench.proofs.main.Statement.{statement}
 use Rattle.bench.proofs.main.Tie as tie
 
 abbrev Inv-loop : tie.InvT-loop
-Inv-loop input₀ text₀ turn₀ turns₀ input text turn turns = turns ≤ turns₀
+Inv-loop input₀ text₀ turn₀ turns₀ input text turn turns = (turns ≤ turns₀) × (length input ≡ length input₀) × (length text ≡ length text₀)
 
 abbrev μ-loop : tie.MeasureT-loop
 μ-loop input₀ text₀ turn₀ turns₀ input text turn turns = turns
@@ -38,7 +41,7 @@ loop-less : tie.Need-loop-less Inv-loop μ-loop
 loop-less c = search needs
 
 loop-again : tie.Need-loop-again Inv-loop μ-loop
-loop-again c = search needs
+loop-again c = (search needs, omega arith, omega arith)
 
 returns : tie.Need-returns Inv-loop μ-loop
 returns c = search needs

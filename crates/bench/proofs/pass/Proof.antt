@@ -1,23 +1,23 @@
--- `bench::pass` meets its contract: a block's text ends within its buffer. Assumes nothing.
+-- `bench::pass` meets its contract: what was read has no more records than the whole buffer, so there is room for its lines. Assumes
+-- nothing.
 use borrow.Author.Needs.{needs}
-use Rattle.script.proofs.BlockLaws.{block-shown}
 use Rattle.bench.proofs.pass.Statement.{statement}
 use Rattle.bench.proofs.pass.Tie as tie
 
 read-full-requires : tie.Need-read-full-requires
 read-full-requires c κs = search needs
 
-slice-reshare-prefix-run-block : tie.Need-slice-reshare-prefix-run-block
-slice-reshare-prefix-run-block c = search needs
+slice-reshare-prefix-run-all : tie.Need-slice-reshare-prefix-run-all
+slice-reshare-prefix-run-all c = search needs
 
-slice-aggregate-run-block : tie.Need-slice-aggregate-run-block
-slice-aggregate-run-block c = search needs
+slice-aggregate-run-all : tie.Need-slice-aggregate-run-all
+slice-aggregate-run-all c = search needs
 
-run-block-requires : tie.Need-run-block-requires
-run-block-requires c κs = search needs
+run-all-requires : tie.Need-run-all-requires
+run-all-requires c κs = search needs
 
 show-requires : tie.Need-show-requires
-show-requires c κs = rw (c .before .before .before .run-block .ensures .0, c .before .before .before .run-block .ensures .1) (block-shown _ _ _)
+show-requires c κs = search needs
 
 same-length : tie.Need-same-length
 same-length c = search needs
@@ -33,9 +33,9 @@ pass-spec =
     tie.close
     (tie.spec
     read-full-requires
-    slice-reshare-prefix-run-block
-    slice-aggregate-run-block
-    run-block-requires
+    slice-reshare-prefix-run-all
+    slice-aggregate-run-all
+    run-all-requires
     show-requires
     same-length
     same-length-2
