@@ -25,6 +25,7 @@ use Rattle.chip.specs.declared.reply.Reply.{Reply}
 use Rattle.chip.specs.declared.reply.Reply.the-variants.{Done, Lines, NoWord, Wait, Busy, Outside}
 use Rattle.chip.proofs.AddressLaws.{or-rest, place-beyond, place-counter, place-trigger, same, same-eq, upTo-at}
 use Rattle.chip.proofs.ChipLaws.{by-bounds}
+use Rattle.chip.proofs.LineLaws.{one-line}
 
 -- ---- the rows by their tests
 
@@ -176,6 +177,7 @@ all-rows (opWrite a word lines) c =
     told-guarded (inside c) c (writeAt (placeOf a) word lines c)
     (λ i. writeRows i (tests a) (oneLine lines) (c .control .sampling) (passes c a) (lacking c a) (c .control .writewait))
     (written a word lines c) refl
+    ∙ ap (λ (o : Bool). writeRows (inside c) (tests a) o (c .control .sampling) (passes c a) (lacking c a) (c .control .writewait)) (one-line lines)
 all-rows (opRead a) c =
     told-guarded (inside c) c (readAt (placeOf a) c) (λ i. readRows i (tests a) (busy (c .queue)) (c .control .readwait)) (seen a c) refl
 all-rows (opTicks k) c = told-done (inside c) c _ 0

@@ -1,16 +1,14 @@
 -- What is sent are the words of the first sample held, one after the other; and a sample taken is one that the writer takes, so the reader
 -- gives it back: its fields are cut to their widths at the trigger. Assumes nothing.
-use Prim.Native.Nat.{ℕ, zero, suc, _+_, _/_, _%_, _^_, _≤_, _<_, suc-le-suc}
-use native.Mathlib.Nat.{zero-lt-suc, zero-add}
+use Prim.Native.Nat.{ℕ, _+_, _/_, _%_, _^_, _≤_, _<_}
 use native.Mathlib.Omega.{arith}
 use mathlib.Core.Path.{_≡_, refl, sym, ap, _∙_, subst}
 use mathlib.Core.Bool.{Bool, true, false, cond, _&&_, _||_, false≢true}
 use mathlib.Core.List.{List, _++_}
-use lib.Count.{onesIn, trailingZeros, under}
 use lib.Dec.{eqb, leb, ltb}
 use lib.ListN.{drop, length, replicate, take, length-drop}
 use lib.Seq.{length-take-le}
-use borrow.Author.Tests.{eq-eqb, eqb-true, lt-ltb, ne-eqb}
+use borrow.Author.Tests.{eq-eqb, lt-ltb, ne-eqb}
 use Rattle.samples.specs.Layout.{counterWidths, firstChip, resource, sampleLength, sampleWords}
 use Rattle.samples.specs.Read.{readPart}
 use Rattle.samples.specs.Write.{allZero, within, writable}
@@ -27,7 +25,7 @@ use Rattle.chip.specs.Chip.{done, fateOf, headerOf, inside, lineOf, oneL
 use Rattle.chip.specs.Fate.{Fate, isOff, isFiltered, isLost, isTold, isTaken}
 use Rattle.chip.specs.Place.{placeOf}
 use Rattle.chip.specs.Reply.{replyNumber}
-use Rattle.chip.specs.Rows.{triggering}
+use Rattle.chip.specs.Rows.{oneActive, triggering}
 use Rattle.chip.specs.Sent.{firstWords, takenSample}
 use Rattle.chip.specs.Operation.{opSend, opWrite, step}
 use Rattle.chip.specs.Repeat.{given}
@@ -38,6 +36,7 @@ use Rattle.chip.specs.declared.place.Place.the-variants.{Trace, Resource
 use Rattle.chip.specs.declared.reply.Reply.{Reply}
 use Rattle.chip.specs.declared.reply.Reply.the-variants.{Done, Lines, Off, Filtered, Lost, Wait, Outside}
 use Rattle.chip.proofs.AddressLaws.{place-trigger}
+use Rattle.chip.proofs.LineLaws.{one-line}
 use Rattle.chip.proofs.Sends.{given-sends}
 use Rattle.chip.proofs.WidthLaws.{within-at}
 
@@ -56,19 +55,6 @@ module _ (c : Chip) (h : inside c ≡ true) (some : c .queue .held ≡ 0 → ⊥
       ap (λ (n : ℕ). given n opSend c) (sym count) ∙ given-sends k c h ∙ words
 
 -- ---- the sample that a trigger takes
-
--- a line's number
-line-under : (k n : ℕ) → (onesIn k n ≡ 0 → ⊥) → trailingZeros k n < k
-unfolding onesIn trailingZeros
-line-under zero n h = absurd (h refl)
-line-under (suc k) n h = go (n % 2) h (line-under k (n / 2))
-  where
-    go : (d : ℕ) → (d + onesIn k (n / 2) ≡ 0 → ⊥) → ((onesIn k (n / 2) ≡ 0 → ⊥) → trailingZeros k (n / 2) < k) → under d (trailingZeros k (n / 2)) < suc k
-    go zero p ih = suc-le-suc (ih (λ e. p (zero-add (onesIn k (n / 2)) ∙ e)))
-    go (suc d) p ih = zero-lt-suc k
-
-pub line-below : (lines : ℕ) → oneLine lines ≡ true → lineOf lines < 8
-line-below lines e = line-under 8 lines (λ z. let p : onesIn 8 lines ≡ 1 = eqb-true (onesIn 8 lines) 1 e in omega arith)
 
 -- a header of five bits, and its bit 3
 module _ (line : ℕ) (small : line < 8) where
@@ -127,16 +113,16 @@ trigger-done true r isLost line word c e = absurd (differ Lost e refl)
 trigger-done true r isTold line word c e = absurd (differ Wait e refl)
 trigger-done true r isTaken line word c e = (refl, refl)
 
--- a trigger with reply 0 has one active line and takes a sample
-pub trigger-takes : (a word lines : ℕ) (c : Chip) → triggering a ≡ true → step (opWrite a word lines) c .reply ≡ Done → (step (opWrite a word lines) c ≡ done 0 (takeSample (leb 112 a) (lineOf lines) word c)) × (oneLine lines ≡ true)
+-- a trigger with reply 0 has exactly one active line and takes a sample
+pub trigger-takes : (a word lines : ℕ) (c : Chip) → triggering a ≡ true → step (opWrite a word lines) c .reply ≡ Done → (step (opWrite a word lines) c ≡ done 0 (takeSample (leb 112 a) (lineOf lines) word c)) × (oneActive lines ≡ true)
 unfolding write writeAt trigger
 trigger-takes a word lines c t e = guard (inside c) e
   where
-    kind : (r : Bool) → writeAt (cond r (Resource (a % 16)) (Trace (a % 16))) word lines c .reply ≡ Done → (writeAt (cond r (Resource (a % 16)) (Trace (a % 16))) word lines c ≡ done 0 (takeSample r (lineOf lines) word c)) × (oneLine lines ≡ true)
-    kind true = trigger-done (oneLine lines) true (fateOf true (a % 16) c) (lineOf lines) word c
-    kind false = trigger-done (oneLine lines) false (fateOf false (a % 16) c) (lineOf lines) word c
+    kind : (r : Bool) → writeAt (cond r (Resource (a % 16)) (Trace (a % 16))) word lines c .reply ≡ Done → (writeAt (cond r (Resource (a % 16)) (Trace (a % 16))) word lines c ≡ done 0 (takeSample r (lineOf lines) word c)) × (oneActive lines ≡ true)
+    kind true q = let p = trigger-done (oneLine lines) true (fateOf true (a % 16) c) (lineOf lines) word c q in (p .0, sym (one-line lines) ∙ p .1)
+    kind false q = let p = trigger-done (oneLine lines) false (fateOf false (a % 16) c) (lineOf lines) word c q in (p .0, sym (one-line lines) ∙ p .1)
 
-    guard : (b : Bool) → cond b (writeAt (placeOf a) word lines c) (replied Outside c) .reply ≡ Done → (cond b (writeAt (placeOf a) word lines c) (replied Outside c) ≡ done 0 (takeSample (leb 112 a) (lineOf lines) word c)) × (oneLine lines ≡ true)
+    guard : (b : Bool) → cond b (writeAt (placeOf a) word lines c) (replied Outside c) .reply ≡ Done → (cond b (writeAt (placeOf a) word lines c) (replied Outside c) ≡ done 0 (takeSample (leb 112 a) (lineOf lines) word c)) × (oneActive lines ≡ true)
     guard false q = absurd (differ Outside q refl)
     guard true q =
-        subst (λ (p : Place). writeAt p word lines c .reply ≡ Done → (writeAt p word lines c ≡ done 0 (takeSample (leb 112 a) (lineOf lines) word c)) × (oneLine lines ≡ true)) (sym (place-trigger a t)) (kind (leb 112 a)) q
+        subst (λ (p : Place). writeAt p word lines c .reply ≡ Done → (writeAt p word lines c ≡ done 0 (takeSample (leb 112 a) (lineOf lines) word c)) × (oneActive lines ≡ true)) (sym (place-trigger a t)) (kind (leb 112 a)) q

@@ -5,7 +5,7 @@ use mathlib.Core.Bool.{Bool, true, false, not, _&&_, _||_}
 use lib.Dec.{leb, ltb, eqb}
 use Rattle.counters.specs.Bank.{bit}
 use Rattle.queue.specs.Queue.{busy}
-use Rattle.chip.specs.Chip.{inside, lacksRoom, oneLine}
+use Rattle.chip.specs.Chip.{inside, lacksRoom}
 use Rattle.chip.specs.Operation.{Operation, opReset, opWrite, opRead, opTicks, opNodes, opEvents, opSend, opFill}
 use Rattle.chip.specs.Reply.{replyNumber}
 use Rattle.chip.specs.declared.chip.Chip.{Chip}
@@ -41,6 +41,15 @@ readOnly a = eqb a 2
 abbrev pub writeOnly : ℕ → Bool
 writeOnly a = eqb a 0 || (eqb a 10 || (eqb a 12 || triggering a))
 
+-- ---- processor lines, by "Reply numbers"
+
+-- "exactly one active processor line" of the eight
+abbrev pub lineAlone : ℕ → Bool
+lineAlone n = eqb n 1 || (eqb n 2 || (eqb n 4 || (eqb n 8 || (eqb n 16 || (eqb n 32 || (eqb n 64 || eqb n 128))))))
+
+abbrev pub oneActive : ℕ → Bool
+oneActive lines = lineAlone (lines % 256)
+
 -- ---- operations, by "The chip's operations"
 
 -- "any operation but hardware reset"
@@ -67,7 +76,7 @@ case w r s (opFill room) = false
 
 -- a trigger with exactly one active processor line that passes a test of its address
 abbrev pub triggerCase : (ℕ → Bool) → Operation → Bool
-triggerCase f op = case (λ a lines. triggering a && (oneLine lines && f a)) (λ a. false) false op
+triggerCase f op = case (λ a lines. triggering a && (oneActive lines && f a)) (λ a. false) false op
 
 -- a read of a counter, under a test
 abbrev pub counterCase : Bool → Operation → Bool
@@ -103,7 +112,7 @@ row3 op c = inside c && case (λ a lines. readOnly a) (λ a. writeOnly a) false 
 
 -- "4 trigger without exactly one active processor line"
 abbrev pub row4 : Operation → Chip → Bool
-row4 op c = inside c && case (λ a lines. triggering a && not (oneLine lines)) (λ a. false) false op
+row4 op c = inside c && case (λ a lines. triggering a && not (oneActive lines)) (λ a. false) false op
 
 -- "5 no word to send (single send)"
 abbrev pub row5 : Operation → Chip → Bool

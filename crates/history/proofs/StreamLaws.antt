@@ -12,7 +12,8 @@ use Rattle.samples.specs.Layout.{firstChip, resource, sampleWords}
 use Rattle.samples.specs.declared.sample.Sample.{Sample}
 use Rattle.queue.specs.Queue.{sendBuffer, sendWords}
 use Rattle.queue.specs.declared.queue.Queue.{Queue}
-use Rattle.chip.specs.Chip.{inside, lineOf, oneLine, sentBuffer}
+use Rattle.chip.specs.Chip.{inside, lineOf, sentBuffer}
+use Rattle.chip.specs.Rows.{oneActive}
 use Rattle.chip.specs.Fate.{Fate, isOff, isFiltered, isLost, isTold, isTaken}
 use Rattle.chip.specs.Operation.{Operation, opReset, opWrite, opRead, opTicks, opNodes, opEvents, opSend, opFill, step}
 use Rattle.chip.specs.Place.{placeOf, registerOf}
@@ -66,7 +67,7 @@ fate-stream isTaken r line word l h =
 
 trigger-stream : (r : Bool) (level word lines : ℕ) (l : Ledger) → l .sent ≤ length (wordsOfAll (l .taken)) → take (triggered r level word lines l .ledger .sent) (wordsOfAll (triggered r level word lines l .ledger .taken)) ≡ take (l .sent) (wordsOfAll (l .taken))
 unfolding triggered
-trigger-stream r level word lines l h = go (oneLine lines)
+trigger-stream r level word lines l h = go (oneActive lines)
   where
     go : (b : Bool) → take (cond b (byFate (fateIn r level l) r (lineOf lines) word l) (tells 4 0 l) .ledger .sent) (wordsOfAll (cond b (byFate (fateIn r level l) r (lineOf lines) word l) (tells 4 0 l) .ledger .taken)) ≡ take (l .sent) (wordsOfAll (l .taken))
     go true = fate-stream (fateIn r level l) r (lineOf lines) word l h

@@ -9,11 +9,11 @@ use lib.Dec.{eqb, leb}
 use lib.ListN.{length, take, drop, getD, length-drop, take-append-drop, replicate}
 use lib.Seq.{take-all}
 use Rattle.queue.specs.Queue.{emptyQueue}
-use Rattle.chip.specs.Chip.{fresh, inside, lineOf, oneLine}
+use Rattle.chip.specs.Chip.{fresh, inside, lineOf}
 use Rattle.chip.specs.Fate.{Fate, fateReply, isOff, isFiltered, isLost, isTold, isTaken}
 use Rattle.chip.specs.Operation.{Operation, opWrite, step}
 use Rattle.chip.specs.Reply.{replyNumber}
-use Rattle.chip.specs.Rows.{triggering}
+use Rattle.chip.specs.Rows.{oneActive, triggering}
 use Rattle.chip.specs.Shape.{Shaped}
 use Rattle.chip.specs.declared.chip.Chip.{Chip}
 use Rattle.chip.specs.declared.place.Place.{Place}
@@ -56,7 +56,7 @@ pub reply-said : (ops : List Operation) (op : Operation) → (replyNumber (step 
 reply-said ops op = let k = agrees-step op (ledgerOf ops) (chipOf ops) (agrees ops) in (k .number, k .value)
 
 -- so each unrefused trigger's reply is that of its fate: from 112 on it is a Resource trigger, and its level is the address modulo 16
-pub trigger-fate : (ops : List Operation) (address word lines : ℕ) → triggering address ≡ true → oneLine lines ≡ true → replyNumber (step (opWrite address word lines) (chipOf ops) .reply) ≡ replyNumber (fateReply (fateIn (leb 112 address) (address % 16) (ledgerOf ops)))
+pub trigger-fate : (ops : List Operation) (address word lines : ℕ) → triggering address ≡ true → oneActive lines ≡ true → replyNumber (step (opWrite address word lines) (chipOf ops) .reply) ≡ replyNumber (fateReply (fateIn (leb 112 address) (address % 16) (ledgerOf ops)))
 unfolding toldOf written triggered byFate
 trigger-fate ops address word lines p e =
     let l : Ledger = ledgerOf ops in

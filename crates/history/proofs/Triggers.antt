@@ -18,7 +18,9 @@ use Rattle.chip.specs.Control.{overran, waited}
 use Rattle.chip.specs.Control.{withErrors as Control·withErrors}
 use Rattle.chip.specs.Fate.{Fate, fate, fateReply, isOff, isFiltered, isLost, isTold, isTaken}
 use Rattle.chip.specs.Reply.{replyNumber}
-use Rattle.chip.proofs.Words.{header-kind, line-below}
+use Rattle.chip.specs.Rows.{oneActive}
+use Rattle.chip.proofs.LineLaws.{line-below, one-line}
+use Rattle.chip.proofs.Words.{header-kind}
 use Rattle.chip.specs.declared.chip.Chip.{Chip}
 use Rattle.chip.specs.declared.control.Control.{Control}
 use Rattle.counters.specs.declared.bank.Bank.{Bank}
@@ -161,7 +163,10 @@ module _ (l : Ledger) (q : Queue) (sh : List ℕ) (g : Good l q sh) where
   -- a trigger, refused with 4 or by its fate
   pub trigger-kept : (r : Bool) (level word lines : ℕ) → Kept (triggered r level word lines l) (trigger r level word lines (chipFor l q sh))
   unfolding triggered trigger
-  trigger-kept r level word lines = go (oneLine lines) refl
+  trigger-kept r level word lines =
+      subst (λ (b : Bool). Kept (triggered r level word lines l) (cond b (triggerBy (fateOf r level (chipFor l q sh)) r (lineOf lines) word (chipFor l q sh)) (replied Lines (chipFor l q sh))))
+      (sym (one-line lines))
+      (go (oneActive lines) (one-line lines))
     where
       c : Chip
       c = chipFor l q sh

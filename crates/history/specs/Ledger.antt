@@ -11,11 +11,12 @@ use Rattle.counters.specs.Bank.{bit, each}
 use Rattle.counters.specs.Due.{selects}
 use Rattle.counters.specs.declared.switches.Kind.{Kind}
 use Rattle.counters.specs.declared.switches.Kind.the-variants.{Slow, External, Software, Node}
-use Rattle.chip.specs.Chip.{headerOf, lineOf, oneLine}
+use Rattle.chip.specs.Chip.{headerOf, lineOf}
 use Rattle.chip.specs.Control.{one, pair}
 use Rattle.chip.specs.Fate.{Fate, fate, isOff, isFiltered, isLost, isTold, isTaken}
 use Rattle.chip.specs.Operation.{Operation, opReset, opWrite, opRead, opTicks, opNodes, opEvents, opSend, opFill}
 use Rattle.chip.specs.Place.{placeOf}
+use Rattle.chip.specs.Rows.{oneActive}
 use Rattle.chip.specs.declared.place.Place.{Place}
 use Rattle.chip.specs.declared.place.Place.the-variants.{Beyond, Nowhere, Reset, Csr, Timestamp, Filter, Waits, Overruns, Mux, Clear, Enable, Disable, Source, Counter, Trace, Resource}
 use Rattle.history.specs.Stream.{anyHeld, heldOf, isBlocked, isFull, totalOf, wordsOfAll}
@@ -169,7 +170,7 @@ byFate isTaken resource line word l =
 -- "4 trigger without exactly one active processor line"
 unfoldable pub triggered : Bool → ℕ → ℕ → ℕ → Ledger → Told
 triggered resource level word lines l =
-    cond (oneLine lines) (byFate (fateIn resource level l) resource (lineOf lines) word l) (tells 4 0 l)
+    cond (oneActive lines) (byFate (fateIn resource level l) resource (lineOf lines) word l) (tells 4 0 l)
 
 unfoldable pub written : Place → ℕ → ℕ → Ledger → Told
 written Beyond word lines l = tells 1 0 l

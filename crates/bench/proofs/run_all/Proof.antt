@@ -1,12 +1,11 @@
 -- `bench::run_all` meets its contract: with room for all lines a block is the whole input's. Assumes nothing.
 use borrow.Author.Needs.{needs}
-use Prim.Native.Nat.{ℕ, _≤_}
-use mathlib.Core.Path.{_≡_, refl, ap, ap₂, _∙_}
+use Prim.Native.Nat.{ℕ}
+use mathlib.Core.Path.{refl, ap, ap₂, _∙_}
 use mathlib.Core.List.{List}
 use lib.ListN.{drop, length, take}
 use lib.Seq.{take-at}
-use Rattle.chip.specs.declared.chip.Chip.{Chip}
-use Rattle.script.specs.Run.{chipOf, textOf}
+use Rattle.script.specs.Run.{textOf}
 use Rattle.script.specs.declared.block.Block.{Block}
 use Rattle.script.proofs.BlockLaws.{block-shown}
 use Rattle.script.proofs.Theorems.{block-whole, buffer-whole}

@@ -1,0 +1,53 @@
+-- Laws of the processor lines: a count of ones that is one is one of the eight lines alone, and its number. By computation over the 256
+-- settings of the lines, and by induction on how many there are. Assumes nothing.
+use Prim.Native.Nat.{ℕ, zero, suc, _+_, _*_, _/_, _%_, _^_, _<_, suc-le-suc}
+use native.Mathlib.Nat.{mod-lt, zero-lt-suc, zero-add}
+use native.Mathlib.Numerals.{add-one}
+use native.Mathlib.Omega.{arith}
+use mathlib.Core.Path.{_≡_, refl, sym, ap, ap₂, _∙_}
+use mathlib.Core.Bool.{Bool, true, false, _&&_}
+use mathlib.Core.List.{List, [], _∷_}
+use lib.Count.{onesIn, trailingZeros, under}
+use lib.Dec.{eqb}
+use lib.ListN.{getD}
+use lib.Pow.{mod-pow-add}
+use borrow.Author.Tests.{eqb-true}
+use Rattle.chip.specs.Chip.{lineOf, oneLine}
+use Rattle.chip.specs.Rows.{lineAlone, oneActive}
+use Rattle.chip.proofs.AddressLaws.{same, same-eq, upTo, upTo-at}
+
+-- ones are counted among the lowest bits alone
+ones-low : (k n : ℕ) → onesIn k (n % 2 ^ k) ≡ onesIn k n
+unfolding onesIn
+ones-low zero n = refl
+ones-low (suc k) n =
+    let more : n % 2 ^ suc k ≡ (n / 2 % 2 ^ k) * 2 + n % 2 = ap (λ (j : ℕ). n % 2 ^ j) (sym (add-one k)) ∙ mod-pow-add n k 1 in
+    let lowest : n % 2 ^ suc k % 2 ≡ n % 2 = omega arith in
+    let half : n % 2 ^ suc k / 2 ≡ n / 2 % 2 ^ k = omega arith in
+    ap₂ _+_ lowest (ap (onesIn k) half ∙ ones-low k (n / 2))
+
+-- "exactly one active processor line"
+pub one-line : (lines : ℕ) → oneLine lines ≡ oneActive lines
+unfolding onesIn
+one-line lines =
+    let one : (oneLine (lines % 256) ∷ []) ≡ (lineAlone (lines % 256) ∷ []) =
+    same-eq _ _ (upTo-at 256 (λ b. same (oneLine b ∷ []) (lineAlone b ∷ [])) refl (lines % 256) (mod-lt lines (zero-lt-suc 255))) in
+    ap (λ (n : ℕ). eqb n 1) (sym (ones-low 8 lines)) ∙ ap (λ (l : List Bool). getD l 0 false) one
+
+-- "the active line's number": line i alone has the number i
+pub line-number : upTo 8 (λ i. eqb (lineOf (2 ^ i)) i && oneLine (2 ^ i)) ≡ true
+unfolding trailingZeros onesIn
+line-number = refl
+
+-- a line's number
+line-under : (k n : ℕ) → (onesIn k n ≡ 0 → ⊥) → trailingZeros k n < k
+unfolding onesIn trailingZeros
+line-under zero n h = absurd (h refl)
+line-under (suc k) n h = go (n % 2) h (line-under k (n / 2))
+  where
+    go : (d : ℕ) → (d + onesIn k (n / 2) ≡ 0 → ⊥) → ((onesIn k (n / 2) ≡ 0 → ⊥) → trailingZeros k (n / 2) < k) → under d (trailingZeros k (n / 2)) < suc k
+    go zero p ih = suc-le-suc (ih (λ e. p (zero-add (onesIn k (n / 2)) ∙ e)))
+    go (suc d) p ih = zero-lt-suc k
+
+pub line-below : (lines : ℕ) → oneLine lines ≡ true → lineOf lines < 8
+line-below lines e = line-under 8 lines (λ z. let p : onesIn 8 lines ≡ 1 = eqb-true (onesIn 8 lines) 1 e in omega arith)
