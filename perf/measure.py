@@ -1,5 +1,5 @@
 #!/usr/bin/env python3
-"""Time bench and twin, both as native code, on a Trace-heavy and a Resource-heavy file of records.
+"""Time bench and twin, both as native code, on a Trace-heavy, a Resource-heavy and a mixed file of records.
 
     perf/measure.py [RECORDS]
 

@@ -1,4 +1,4 @@
--- Document 01, "The chip's operations": the record, and what each operation answers and leaves.
+-- Document 01, "The chip's operations": the record, and what each operation answers and leaves. Each part below names its paragraph.
 use Prim.Native.Nat.{ℕ, _+_, _*_, _%_, _^_}
 use mathlib.Core.Bool.{Bool, true, false, cond, _&&_, _||_}
 use mathlib.Core.List.{List}
@@ -24,7 +24,8 @@ use Rattle.chip.specs.declared.place.Place.the-variants.{Beyond, Nowhere
 use Rattle.chip.specs.declared.reply.Reply.{Reply}
 use Rattle.chip.specs.declared.reply.Reply.the-variants.{Done, TooHigh, Nothing, Forbidden, Lines, NoWord, Off, Filtered, Lost, Wait, Busy, Outside}
 
--- a chip with another part
+-- ---- "Each operation is given the whole record": a chip with another part
+
 abbrev pub withStamp : ℕ → Chip → Chip
 withStamp n c = record { stamp = n; queue = c .queue; bank = c .bank; sources = c .sources; control = c .control; switches = c .switches }
 
@@ -43,6 +44,8 @@ withControl k c = record { stamp = c .stamp; queue = c .queue; bank = c .bank; s
 abbrev pub withSwitches : Switches → Chip → Chip
 withSwitches s c = record { stamp = c .stamp; queue = c .queue; bank = c .bank; sources = c .sources; control = c .control; switches = s }
 
+-- ---- resets, by "The chip's operations" and "Software reset"
+
 -- "every part becomes zero, Timestamp included. That is a fresh chip"
 abbrev pub fresh : Chip
 fresh =
@@ -59,7 +62,9 @@ fresh =
 abbrev pub softReset : Chip → Chip
 softReset c = withStamp (c .stamp) fresh
 
--- an answer that the operation is done, with a value; and a reply with the value 0
+-- ---- answers, by "Reply numbers"
+
+-- "done": the next record with a value; and a record with another reply and the value 0
 abbrev pub done : ℕ → Chip → Answer
 done value c = record { chip = c; value = value; reply = Done }
 
@@ -74,7 +79,7 @@ inside c = insideQueue (c .queue) && (ltb (c .switches .phase) 10 && ltb (c .sta
 abbrev pub guarded : Chip → Answer → Answer
 guarded c a = cond (inside c) a (replied Outside c)
 
--- ---- triggers
+-- ---- triggers, by "Triggers and the queue" and, of the sample, "Sample and words"
 
 -- "exactly one active processor line", and its number
 abbrev pub oneLine : ℕ → Bool
@@ -118,6 +123,7 @@ takeSample resource line word c =
       switches = c .switches;
     }
 
+-- the table's rows 6, 7, 8 ("overrun rules"), 10 ("Wait Counter + 1") and 0 ("sample taken")
 unfoldable pub triggerBy : Fate → Bool → ℕ → ℕ → Chip → Answer
 triggerBy isOff resource line word c = replied Off c
 triggerBy isFiltered resource line word c = replied Filtered c
@@ -126,6 +132,7 @@ triggerBy isLost resource line word c =
 triggerBy isTold resource line word c = replied Wait (withControl (waited (c .control)) c)
 triggerBy isTaken resource line word c = done 0 (takeSample resource line word c)
 
+-- by sampling, the level's bit of the Filter, room and write wait
 abbrev pub fateOf : Bool → ℕ → Chip → Fate
 fateOf resource level c =
     fate (c .control .sampling) (bit (c .control .filter) level) (lacksRoom resource (c .queue)) (c .control .writewait)
@@ -135,7 +142,7 @@ unfoldable pub trigger : Bool → ℕ → ℕ → ℕ → Chip → Answer
 trigger resource level word lines c =
     cond (oneLine lines) (triggerBy (fateOf resource level c) resource (lineOf lines) word c) (replied Lines c)
 
--- ---- writes and reads, by what stands at the address
+-- ---- writes and reads, by "Address map", its columns "Write" and "Read"; reads of counters by "Counters"
 
 unfoldable pub writeAt : Place → ℕ → ℕ → Chip → Answer
 writeAt Beyond word lines c = replied TooHigh c
@@ -183,18 +190,20 @@ readAt (Counter i) c = readCounter i c
 readAt (Trace level) c = replied Forbidden c
 readAt (Resource level) c = replied Forbidden c
 
--- ---- the operations
+-- ---- the operations, by "The chip's operations"
 
+-- "Hardware reset": no bounds are asked of the record
 abbrev pub hardReset : Chip → Answer
 hardReset c = done 0 fresh
 
+-- "Write: address, 64-bit data, 8 processor lines. Read: address"
 unfoldable pub write : ℕ → ℕ → ℕ → Chip → Answer
 write address word lines c = guarded c (writeAt (placeOf address) word lines c)
 
 unfoldable pub read : ℕ → Chip → Answer
 read address c = guarded c (readAt (placeOf address) c)
 
--- "Timestamp wraps at 2^56"; the slow events among the ticks count
+-- "Timestamp ticks": "Timestamp wraps at 2^56", and the slow events among the ticks count
 abbrev pub afterTicks : ℕ → Chip → Chip
 afterTicks k c =
     record {
@@ -209,9 +218,11 @@ afterTicks k c =
 unfoldable pub timestampTicks : ℕ → Chip → Answer
 timestampTicks k c = guarded c (done 0 (afterTicks k c))
 
+-- "node ticks": "11 node clock"
 unfoldable pub nodeTicks : ℕ → Chip → Answer
 nodeTicks k c = guarded c (done 0 (withBank (ticked Node k (c .switches) (c .bank)) c))
 
+-- "External events: a 16-bit mask, one event for each set bit"
 unfoldable pub externalEvents : ℕ → Chip → Answer
 externalEvents mask c = guarded c (done 0 (withBank (signalled mask (c .switches) (c .bank)) c))
 

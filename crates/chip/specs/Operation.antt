@@ -5,8 +5,8 @@ use Rattle.chip.specs.Chip.{externalEvents, hardReset, nodeTicks, read, 
 use Rattle.chip.specs.declared.chip.Answer.{Answer}
 use Rattle.chip.specs.declared.chip.Chip.{Chip}
 
--- a write has its address, data and processor lines, a read its address; ticks have their count, events their mask, and a buffer send
--- the number of its places
+-- a write has its address, data (`word` here and in the code, since `data` is a word of the language) and processor lines, a read its
+-- address; ticks have their count, events their mask, and a buffer send the number of its places
 pub data Operation : Type 0 where
   opReset : Operation
   opWrite : ℕ → ℕ → ℕ → Operation
