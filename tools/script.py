@@ -61,7 +61,7 @@ MOST_SENDS = 1_000_000
 
 FIRST_TRIGGER, LAST_TRIGGER = 96, 127
 
-# The reply numbers and their meanings, in the words of the scope paper's table.
+# The reply numbers and their meanings, in the words of document 01's table.
 MEANINGS = {
     0: "done, or sample taken",
     1: "address above 127",

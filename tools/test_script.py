@@ -114,7 +114,7 @@ named = {address for address, _ in NAMES}
 for address in set(range(256)) - named:
     check(script.unpack(bytes([2, address]) + bytes(10)), "read %d\n" % address, "no name for %d" % address)
 
-# ---- Listing B of the scope paper, written out by hand ----
+# ---- Listing B of document 01, written out by hand ----
 
 LISTING_B = hexadecimal("""
     01 01 00 00 01 00 00 00 00 00 00 00
