@@ -9,8 +9,8 @@ use mathlib.Core.List.{List, [], _∷_}
 use lib.Dec.{leb, ltb, eqb}
 use lib.ListN.{getD}
 use borrow.Author.Tests.{eqb-true, eqb-false, lt-ltb, le-ltb, le-leb, lt-leb, leb-true, leb-false, ltb-true, ltb-false}
-use Rattle.chip.specs.Place.{placeOf}
-use Rattle.chip.specs.Rows.{between, counterAt, triggering}
+use Rattle.chip.specs.Place.{between, placeOf}
+use Rattle.chip.specs.Rows.{counterAt, triggering}
 use Rattle.chip.specs.declared.place.Place.{Place}
 use Rattle.chip.specs.declared.place.Place.the-variants.{Beyond, Counter, Trace, Resource}
 
@@ -49,7 +49,8 @@ or-rest false x e q = e
 
 pub place-beyond : (a : ℕ) → 127 < a → placeOf a ≡ Beyond
 unfolding placeOf
-place-beyond a h = simp (lt-ltb 127 a h)
+place-beyond a h =
+    simp (le-ltb a 16 (omega arith), lt-leb a 23 (omega arith), lt-leb a 47 (omega arith), lt-leb a 111 (omega arith), lt-leb a 127 h, lt-ltb 127 a h)
 
 -- a test of places is a test of addresses, if it is for each up to 127, and both fail above
 pub place-test : (f : Place → Bool) (g : ℕ → Bool) → upTo 128 (λ a. same (f (placeOf a) ∷ []) (g a ∷ [])) ≡ true → f Beyond ≡ false → ((a : ℕ) → 127 < a → g a ≡ false) → (a : ℕ) → f (placeOf a) ≡ g a
@@ -80,13 +81,17 @@ place-trigger a e = go (leb 112 a) refl
     go : (r : Bool) → leb 112 a ≡ r → placeOf a ≡ cond r (Resource (a % 16)) (Trace (a % 16))
     go true q =
         let p : (96 ≤ a) × (a ≤ 127) = h in
-        simp (le-ltb 127 a (p .1), q) (ap Resource (omega (arith, leb-true 112 a q)))
+        let low : 112 ≤ a = leb-true 112 a q in
+        simp (le-ltb a 16 (omega arith), lt-leb a 23 (omega arith), lt-leb a 47 (omega arith), lt-leb a 111 (omega arith), le-leb a 127 (p .1), q)
+        (ap Resource (omega arith))
     go false q =
         let p : (96 ≤ a) × (a ≤ 127) = h in
-        simp (le-ltb 127 a (p .1), q, le-leb 96 a (p .0)) (ap Trace (omega (arith, leb-false 112 a q)))
+        let high : a < 112 = leb-false 112 a q in
+        simp (le-ltb a 16 (omega arith), lt-leb a 23 (omega arith), lt-leb a 47 (omega arith), le-leb a 111 (omega arith), le-leb 96 a (p .0))
+        (ap Trace (omega arith))
 
 pub place-counter : (a : ℕ) → counterAt a ≡ true → placeOf a ≡ Counter (a - 32)
 unfolding placeOf
 place-counter a e =
     let p : (32 ≤ a) × (a ≤ 47) = between-in 32 47 a e in
-    simp (le-ltb 127 a (omega arith), lt-leb 112 a (omega arith), lt-leb 96 a (omega arith), lt-leb 48 a (omega arith), le-leb 32 a (p .0))
+    simp (le-ltb a 16 (omega arith), lt-leb a 23 (omega arith), le-leb a 47 (p .1), le-leb 32 a (p .0))

@@ -9,8 +9,8 @@ use Rattle.chip.specs.Chip.{afterTicks, blocked, done, externalEvents, f
 use Rattle.chip.specs.Control.{overran, waited}
 use Rattle.chip.specs.Fate.{Fate, isOff, isFiltered, isLost, isTold, isTaken}
 use Rattle.chip.specs.Operation.{Operation, opReset, opWrite, opRead, opTicks, opNodes, opEvents, opSend, opFill, step}
-use Rattle.chip.specs.Place.{placeOf, registerOf}
-use Rattle.chip.specs.Rows.{between, refused, resourceTrigger}
+use Rattle.chip.specs.Place.{between, placeOf, registerOf}
+use Rattle.chip.specs.Rows.{refused, resourceTrigger}
 use Rattle.chip.specs.declared.chip.Answer.{Answer}
 use Rattle.chip.specs.declared.chip.Chip.{Chip}
 use Rattle.chip.specs.declared.place.Place.{Place}

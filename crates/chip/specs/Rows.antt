@@ -6,16 +6,13 @@ use lib.Dec.{leb, ltb, eqb}
 use Rattle.counters.specs.Bank.{bit}
 use Rattle.queue.specs.Queue.{busy}
 use Rattle.chip.specs.Chip.{inside, lacksRoom}
+use Rattle.chip.specs.Place.{between}
 use Rattle.chip.specs.Operation.{Operation, opReset, opWrite, opRead, opTicks, opNodes, opEvents, opSend, opFill}
 use Rattle.chip.specs.Reply.{replyNumber}
 use Rattle.chip.specs.declared.chip.Chip.{Chip}
 use Rattle.chip.specs.declared.reply.Reply.{Reply}
 
 -- ---- addresses, by "Address map"
-
--- the addresses from one up to another
-abbrev pub between : ℕ → ℕ → ℕ → Bool
-between first last a = leb a last && leb first a
 
 -- "96..111 Trace trigger", "112..127 Resource trigger"
 abbrev pub triggering : ℕ → Bool
