@@ -36,18 +36,52 @@ def crates():
                 yield name
 
 
+def statements(text):
+    """How many public laws and theorems a text has; fields of its records and the proofs of contracts are none."""
+    count, fields = 0, False
+    for line in text.split('\n'):
+        if re.match(r'pub record .* where$', line):
+            fields = True
+        elif not line.startswith(' '):
+            fields = False
+        if not fields and re.match(r' *pub [^\s:]+ : ', line) and not re.match(r'pub \S+-spec : ', line):
+            count += 1
+    return count
+
+
+def axioms_in(log):
+    """For each crate that a log calls proved, how many axioms its check counts, and their names."""
+    found, count, names = {}, 0, []
+    for line in log.split('\n'):
+        listed, counted = re.match(r'axioms \w+: (.*) \(', line), re.search(r' axioms=(\d+)', line)
+        proved = re.match(r'rt: (\w+) proved', line)
+        if listed:
+            names += listed.group(1).split(', ')
+        elif counted:
+            count = int(counted.group(1))
+        elif proved:
+            found[proved.group(1)] = (count, names)
+            count, names = 0, []
+    return found
+
+
+def clock(log, word):
+    """The seconds behind a word of bash's `time` at the end of a log, or none."""
+    found = re.findall(r'^%s\s+(\d+)m([\d.]+)s' % word, log, re.M)
+    return int(found[-1][0]) * 60 + float(found[-1][1]) if found else None
+
+
 def main():
     if len(sys.argv) != 2:
         sys.exit(__doc__)
     with open(sys.argv[1], encoding='utf-8', errors='replace') as file:
         log = file.read()
     seconds = dict(re.findall(r'^rt: (\w+) proved \((\d+) s\)', log, re.M))
-    edits_time = sum(int(n) for n in re.findall(r'^must-fail \S+: refused.*?(\d+) s\)', log, re.M))
+    edit_times = [int(n) for n in re.findall(r'^rt: must-fail \S+: refused.*?(\d+) s\)', log, re.M)]
     verdict = re.findall(r'^\d+ passed, \d+ failed', log, re.M)
-    real = re.search(r'^real\s+(\d+)m([\d.]+)s', log, re.M)
-    axioms = sorted(set(re.findall(r'axioms=(\d+)', log)), key=int)
+    axioms = axioms_in(log)
     kit = re.search(r'^gate: kit (.*)', log, re.M)
-    compared = re.findall(r'^.*records.*compared.*$', log, re.M)
+    compared = re.findall(r'^compare: bench and twin (agree on \d+ records.*)$', log, re.M)
 
     rows, total = [], [0] * 8
     for name in crates():
@@ -57,7 +91,7 @@ def main():
         proof, proved = lines_of(os.path.join(base, 'proofs'), '.antt', '--')
         functions = len(re.findall(r'^\s*(?:pub )?fn ', source, re.M))
         defined = len(re.findall(r'^(?:unfoldable |abbrev )?(?:pub )?(?:data |record )?[^\s:]+ : .*|^pub (?:data|record) ', definitions, re.M))
-        theorems = len(re.findall(r'^ *pub [^\s:]+ : ', proved, re.M)) - len(re.findall(r'^pub \S+-spec : ', proved, re.M))
+        theorems = statements(proved)
         folder = os.path.join(base, 'must-fail')
         edits = len([n for n in os.listdir(folder) if n.endswith('.edit')]) if os.path.isdir(folder) else 0
         row = [functions, defined, theorems, edits, code, specs, proof, int(seconds.get(name, 0))]
@@ -68,6 +102,7 @@ def main():
     print('Made by `tools/figures.py` from the files and a log of the gate; see there how to make them again.\n')
     if kit:
         print(f'Kit: `{kit.group(1)}`.\n')
+    print(f'Crates: {len(rows)}.\n')
     print('| crate | functions | definitions | laws and theorems | must-fail edits | lines of code | of specs | of proof | check, s |')
     print('|---|---|---|---|---|---|---|---|---|')
     for name, row in rows:
@@ -77,15 +112,18 @@ def main():
     if total[4]:
         print(f'Proof lines for each line of code: {total[6] / total[4]:.1f} (with specs {(total[5] + total[6]) / total[4]:.1f}).\n')
     print('Functions are those with a body; laws and theorems are the named statements that other files can cite.\n')
-    if edits_time:
-        print(f'All must-fail edits together: {edits_time} s of one core.\n')
-    for line in compared:
-        print(line.strip() + '\n')
-    if real:
-        print(f'Whole gate, by the clock of the log: {int(real.group(1)) * 60 + float(real.group(2)):.0f} s on two cores.\n')
-    if axioms:
-        print(f'Axioms that the last lines of the checks count: {", ".join(axioms)}: the contracts of the C library\'s calls that programs')
-        print('make through the kit\'s `io`. No other crate counts any.\n')
+    if edit_times:
+        print(f'Checks of the must-fail edits: {len(edit_times)}, together {sum(edit_times)} s.\n')
+    for words in compared:
+        print(f'Bench and twin {words}.\n')
+    real, user, system = (clock(log, word) for word in ('real', 'user', 'sys'))
+    if real is not None:
+        print(f'Whole gate, by the clock: {real:.0f} s.' + (f' Of processors: {user + system:.0f} s.' if user and system else '') + '\n')
+    some = [f'`{name}` {count} ({", ".join("`%s`" % word for word in names)})' for name, (count, names) in axioms.items() if count]
+    if some:
+        print(f'Axioms that the checks count: {", ".join(some)};')
+        print(f'the other {len(axioms) - len(some)} crates of the log count none. They are contracts of the C library\'s calls, which programs make')
+        print('through the kit\'s `io`.\n')
     if verdict:
         print(f'The gate\'s last line: `{verdict[-1]}`.')
 
