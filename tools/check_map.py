@@ -10,6 +10,7 @@
 - Every public function of a library crate stands once in the table of wrong
   programs, and nothing else stands there.
 - Every `old:` text of an edit occurs exactly once in the file that it changes.
+- Every version of tools/idle.py is on the page, and its old texts stand likewise.
 
 Faults are listed, and the status is 1; else one line says what was checked.
 """
@@ -18,6 +19,8 @@ import glob
 import os
 import re
 import sys
+
+from idle import VERSIONS
 
 ROOT = os.path.dirname(os.path.dirname(os.path.abspath(__file__)))
 PAGE = "docs/STATEMENTS.md"
@@ -116,7 +119,7 @@ def check_names(page, declared, paths, known):
         if edit:
             return (crate, edit) in known or is_path(name)
         in_row = bool(cells) and any((crate, name) in known for crate in backticked(cells[0]))
-        return name in every or name in ALLOWED or in_row or is_path(name)
+        return name in every or name in ALLOWED or name in VERSIONS or in_row or is_path(name)
 
     for number, line in enumerate(page.split("\n"), 1):
         for name in backticked(line):
@@ -162,6 +165,18 @@ def check_edits(page, known):
     return faults
 
 
+def check_versions(page):
+    """The idle versions that the page doesn't name, and their old texts that don't stand exactly once in their file."""
+    named = set(backticked(page))
+    faults = [f"{PAGE}: the idle version {name} is not named" for name in VERSIONS if name not in named]
+    for name, (_, changes, _, _) in VERSIONS.items():
+        for path, old, _ in changes:
+            count = text_of(path).count(old)
+            if count != 1:
+                faults.append(f"tools/idle.py: {name}: {count} times in {path}: {old.strip()}")
+    return faults
+
+
 def check_public(page, public):
     """The public functions that have no row of their own in the table of wrong programs, and the rows without one."""
     part = page.partition(f"\n## {WRONG_PROGRAMS}\n")[2].partition("\n## ")[0]
@@ -178,7 +193,7 @@ def main():
     page, declared, known = text_of(PAGE), definitions(), edits()
     paths, public = items()
     names, faults = check_names(page, declared, paths, known)
-    faults += check_edits(page, known) + check_public(page, public)
+    faults += check_edits(page, known) + check_versions(page) + check_public(page, public)
     for fault in faults:
         print(fault)
     if faults:
