@@ -10,7 +10,8 @@
 - Every public function of a library crate stands once in the table of wrong
   programs, and nothing else stands there.
 - Every `old:` text of an edit occurs exactly once in the file that it changes.
-- Every version of tools/idle.py is on the page, and its old texts stand likewise.
+- Every version of tools/idle.py has a row with the crates that it leaves proved
+  and the laws that refuse it, and its old texts stand likewise.
 
 Faults are listed, and the status is 1; else one line says what was checked.
 """
@@ -166,10 +167,13 @@ def check_edits(page, known):
 
 
 def check_versions(page):
-    """The idle versions that the page doesn't name, and their old texts that don't stand exactly once in their file."""
-    named = set(backticked(page))
-    faults = [f"{PAGE}: the idle version {name} is not named" for name in VERSIONS if name not in named]
-    for name, (_, changes, _, _) in VERSIONS.items():
+    """What the rows of the idle versions leave out, and their old texts that don't stand exactly once in their file."""
+    faults = []
+    for name, (_, changes, proved, refused) in VERSIONS.items():
+        row = "".join(line for line in page.split("\n") if line.startswith(f"| `{name}` |"))
+        for word in proved + [law for _, law in refused]:
+            if f"`{word}`" not in row:
+                faults.append(f"{PAGE}: the row of the idle version {name} doesn't name `{word}`")
         for path, old, _ in changes:
             count = text_of(path).count(old)
             if count != 1:

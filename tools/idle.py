@@ -1,5 +1,5 @@
 #!/usr/bin/env python3
-"""idle.py [NAME ..]: document 01's idle versions, tried as whole chips.
+"""idle.py [NAME ..]: idle versions, document 01's and one of ours, tried as whole chips.
 
 A must-fail edit changes one crate. Here an idle version is made in a copy of the repository: code and definition are changed alike, and
 the proofs that name the changed number or test with them, so that the crates below still prove and only the statement that carries the

@@ -7,7 +7,7 @@ use script::block::run_block;
 ghost use Prim.Native.Nat.{_*_, _%_, _≤_};
 ghost use mathlib.Core.Path.{_≡_};
 ghost use lib.ListN.{length, take};
-ghost use Rattle.script.specs.Run.{chipOf, recordCount, textOf};
+ghost use Rattle.script.specs.Run.{inputChip, recordCount, inputText};
 
 // The chip after a block of input, and whether there may be more.
 struct Turn {
@@ -55,8 +55,8 @@ fn pass(chip: Chip, input: &mut [u8], text: &mut [u8]) -> Turn
 // Runs all the records of an input, with room for all their lines: the chip after them, and their whole text.
 fn run_all(chip: Chip, input: &[u8], text: &mut [u8]) -> Block
     requires { ⌜ 42 * recordCount (length (now input)) ≤ length (now text) ⌝ }
-    ensures { λ r. ⌜ r .chip ≡ chipOf (now (input .entry)) chip ⌝ }
-    ensures { λ r. ⌜ take (r .written) (now (text .exit)) ≡ textOf (now (input .entry)) chip ⌝ }
+    ensures { λ r. ⌜ r .chip ≡ inputChip (now (input .entry)) chip ⌝ }
+    ensures { λ r. ⌜ take (r .written) (now (text .exit)) ≡ inputText (now (input .entry)) chip ⌝ }
     ensures { λ r. ⌜ r .written ≤ length (now (text .exit)) ⌝ }
 {
     run_block(chip, input, text)

@@ -1,5 +1,6 @@
--- A fresh chip is inside the bounds, and every operation keeps them: few touch the queue, the phase or the Timestamp, and those have laws
--- of their own. So no chain of operations from a fresh chip meets reply 15. Assumes nothing.
+-- A fresh chip is inside the bounds and has the lengths and widths of its types, and every operation keeps both: few touch the queue, the
+-- phase, the Timestamp or a list, and those have laws of their own. So no chain of operations from a fresh chip meets reply 15. Assumes
+-- nothing.
 use Prim.Native.Nat.{ℕ, zero, suc, _+_, _%_, _^_, _<_}
 use native.Mathlib.Nat.{mod-lt, zero-lt-suc}
 use native.Mathlib.Omega.{arith}

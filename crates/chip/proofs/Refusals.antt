@@ -155,25 +155,25 @@ module _ (op : Operation) (c : Chip) where
   kept-as : (x : Reply) → step op c .reply ≡ x → Kept (resourceTrigger op) c x (step op c .value) (step op c .chip)
   kept-as x e = subst (λ (y : Reply). Kept (resourceTrigger op) c y (step op c .value) (step op c .chip)) e (kept op c)
 
-  -- 1 to 5 and 15: "0, same"
+  -- 1 to 5 and 15: value "0", record "same"
   pub refusals : refused (step op c .reply) ≡ true → (step op c .value ≡ 0) × (step op c .chip ≡ c)
   refusals e = kept-refused (resourceTrigger op) c (step op c .reply) (step op c .value) (step op c .chip) e (kept op c)
 
-  -- 6 and 7: "0, same"
+  -- 6 and 7: value "0", record "same"
   pub when-off : step op c .reply ≡ Off → (step op c .value ≡ 0) × (step op c .chip ≡ c)
   when-off e = kept-as Off e
 
   pub when-filtered : step op c .reply ≡ Filtered → (step op c .value ≡ 0) × (step op c .chip ≡ c)
   when-filtered e = kept-as Filtered e
 
-  -- 8: "0, overrun rules"
+  -- 8: value "0", record "overrun rules"
   pub when-lost : step op c .reply ≡ Lost → (step op c .value ≡ 0) × (step op c .chip ≡ withControl (overran (full (c .queue)) (blocked (resourceTrigger op) (c .queue)) (c .control)) c)
   when-lost e = kept-as Lost e
 
-  -- 10: "0, Wait Counter + 1"
+  -- 10: value "0", record "Wait Counter + 1"
   pub when-waiting : step op c .reply ≡ Wait → (step op c .value ≡ 0) × (step op c .chip ≡ withControl (waited (c .control)) c)
   when-waiting e = kept-as Wait e
 
-  -- 11: "2^63, same"
+  -- 11: value "2^63", record "same"
   pub when-busy : step op c .reply ≡ Busy → (step op c .value ≡ 2 ^ 63) × (step op c .chip ≡ c)
   when-busy e = kept-as Busy e

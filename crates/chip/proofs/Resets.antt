@@ -1,4 +1,5 @@
--- Resets give a fresh record, whatever came in, but for the Timestamp of a software reset: by computation. Assumes nothing.
+-- A hardware reset gives a fresh record, whatever came in, and a software reset inside the bounds one but for the Timestamp: by
+-- computation. Assumes nothing.
 use Prim.Native.Nat.{ℕ}
 use mathlib.Core.Path.{_≡_, refl, sym, ap, _∙_}
 use mathlib.Core.Bool.{true}

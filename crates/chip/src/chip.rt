@@ -14,7 +14,7 @@ ghost use mathlib.Core.Bool.{cond, false, true};
 ghost use Prim.Native.Nat.{ℕ, _<_, _≤_, _^_};
 ghost use lib.ListN.{getD, length, set};
 ghost use Rattle.counters.specs.Bank.{copied};
-ghost use Rattle.chip.specs.Chip.{afterTicks, blocked, done, externalEvents, fresh, hardReset, headerOf, inside, nodeTicks, noneHeld, read, readAt, readCounter, replied, sampleNow, send, sendInto, sentBuffer, softReset, takeSample, timestampTicks, trigger, triggerBy, fateOf, withBank, withControl, withSources, withStamp, withSwitches, write, writeAt};
+ghost use Rattle.chip.specs.Chip.{afterTicks, blocked, done, externalEvents, fresh, hardReset, inside, nodeTicks, noneHeld, read, readAt, readCounter, replied, sampleNow, send, sendInto, sentBuffer, softReset, takeSample, timestampTicks, trigger, triggerBy, fateOf, withBank, withControl, withSources, withStamp, withSwitches, write, writeAt};
 
 // Wide parts first: no padding (400 bytes).
 pub struct Chip {
@@ -195,7 +195,7 @@ impl Chip {
 }
 
 impl Chip {
-    // A write, by what stands at the address.
+    // A write, by what stands at the address. Both kinds of trigger share one call, so that the compiler keeps the record in place.
     fn write_at(self, place: Place, word: u64, lines: u8) -> Answer
         ensures { λ r. ⌜ r ≡ writeAt place word lines self ⌝ }
     {
@@ -272,7 +272,8 @@ impl Chip {
         self
     }
 
-    // A Source Address register takes a number.
+    // A Source Address register takes a number. Eight fixed places: with a computed one the compiler copies the whole record at every
+    // operation (docs/PERFORMANCE.md).
     fn sourced(mut self, index: usize, number: u32) -> Chip
         ensures { λ r. ⌜ r ≡ withSources (set (self .sources) index number) self ⌝ }
     {

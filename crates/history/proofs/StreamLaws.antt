@@ -184,7 +184,7 @@ module _ (l : Ledger) (c : Chip) (a : Agrees l c) where
 
 -- ---- the words still to come
 
--- more tries than words left give just those
+-- n tries give the first n of the words that are left
 pub come-words : (n : ℕ) (l : Ledger) (c : Chip) → Agrees l c → comeWithin n c ≡ take n (drop (l .sent) (wordsOfAll (l .taken)))
 unfolding comeWithin toldOf
 come-words zero l c a = refl

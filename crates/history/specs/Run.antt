@@ -18,8 +18,8 @@ runFrom c (op ∷ ops) = runFrom (step op c .chip) ops
 abbrev pub chipOf : List Operation → Chip
 chipOf ops = runFrom fresh ops
 
--- the words sent since the last reset, after one operation more: a reset, also a write at address 0, begins anew; a send that is done
--- adds its value, and a buffer send what it wrote at the start of a buffer
+-- the words sent since the last reset, after one operation more on a record inside its bounds, as every list leaves one: a reset, also a
+-- write at address 0, begins anew; a send that is done adds its value, and a buffer send what it wrote at the start of a buffer
 unfoldable pub streamAfter : Operation → Chip → List ℕ → List ℕ
 streamAfter opReset c ws = []
 streamAfter (opWrite address word lines) c ws = cond (eqb address 0) [] ws

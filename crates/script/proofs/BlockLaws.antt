@@ -10,7 +10,7 @@ use lib.ListN.{length, drop, take, length-append, length-drop}
 use lib.Seq.{sets, sets-eq, take-all, take-append-seam, drop-append-add, drop-drop}
 use borrow.Author.Tests.{le-leb, leb-true, leb-false}
 use Rattle.chip.specs.declared.chip.Chip.{Chip}
-use Rattle.script.specs.Line.{lineBuffer, lineEnd, lineOf}
+use Rattle.script.specs.Line.{lineBuffer, lineEnd, answerLine}
 use Rattle.script.specs.Run.{blockBuffer, blockCount, blockOf, chipAfter, lineAt, outcomeAt, textAfter}
 use Rattle.script.specs.declared.operation.Outcome.{Outcome}
 use Rattle.script.proofs.LineLaws.{line-bound}
@@ -27,17 +27,17 @@ pub front-length : (text out : List ℕ) → length text ≤ length out → leng
 front-length text out h = omega (arith, length-append text (drop (length text) out), length-drop (length text) out)
 
 module _ (number value : ℕ) (text out : List ℕ) (h : length text + 42 ≤ length out) where
-  pub end-behind : lineEnd number value (length (text ++ drop (length text) out)) (length text) ≡ length (text ++ lineOf number value)
+  pub end-behind : lineEnd number value (length (text ++ drop (length text) out)) (length text) ≡ length (text ++ answerLine number value)
   unfolding lineEnd
   end-behind =
-      ap (λ (b : Bool). cond b (length text + length (lineOf number value)) (length text))
+      ap (λ (b : Bool). cond b (length text + length (answerLine number value)) (length text))
       (le-leb (length text + 42) (length (text ++ drop (length text) out)) (omega (arith, front-length text out (omega arith))))
-      ∙ sym (length-append text (lineOf number value))
+      ∙ sym (length-append text (answerLine number value))
 
-  pub line-behind : lineBuffer number value (text ++ drop (length text) out) (length text) ≡ text ++ lineOf number value ++ drop (length (text ++ lineOf number value)) out
+  pub line-behind : lineBuffer number value (text ++ drop (length text) out) (length text) ≡ text ++ answerLine number value ++ drop (length (text ++ answerLine number value)) out
   unfolding lineBuffer
   line-behind =
-      let line = lineOf number value in
+      let line = answerLine number value in
       let rest = drop (length text) out in
       let long = front-length text out (omega arith) in
       ap (λ (b : Bool). cond b (sets (text ++ rest) (length text) line) (text ++ rest)) (le-leb (length text + 42) (length (text ++ rest)) (omega arith))
@@ -69,9 +69,9 @@ module _ (input : List ℕ) (chip : Chip) (i : ℕ) {state : Chip} {o : Outcome}
   unfolding chipAfter
   chip-turn = rw add-one (ap (λ (r : Outcome). r .chip) next)
 
-  text-next : textAfter i input chip ++ lineOf (o .number) (o .value) ≡ textAfter (i + 1) input chip
+  text-next : textAfter i input chip ++ answerLine (o .number) (o .value) ≡ textAfter (i + 1) input chip
   unfolding textAfter
-  text-next = rw add-one (ap (λ (r : Outcome). textAfter i input chip ++ lineOf (r .number) (r .value)) next)
+  text-next = rw add-one (ap (λ (r : Outcome). textAfter i input chip ++ answerLine (r .number) (r .value)) next)
 
   module _ (before : List ℕ) (room : 42 * (i + 1) ≤ length before) {at : ℕ} {out : List ℕ} (a : at ≡ length (textAfter i input chip)) (f : out ≡ textAfter i input chip ++ drop (length (textAfter i input chip)) before) where
     fits : length (textAfter i input chip) + 42 ≤ length before

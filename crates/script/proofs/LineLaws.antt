@@ -11,7 +11,7 @@ use lib.ListN.{length, set, length-append}
 use lib.Seq.{sets, length-sets, set-comm}
 use borrow.Author.Tests.{leb-true, lt-ltb, le-ltb}
 use Rattle.io.specs.Digits.{digits, glyph}
-use Rattle.script.specs.Line.{decimal, lineBuffer, lineEnd, lineOf, widthOf}
+use Rattle.script.specs.Line.{decimal, lineBuffer, lineEnd, answerLine, widthOf}
 
 -- a digit's glyph
 glyph-digit : (n : ℕ) → glyph (n % 10) ≡ 48 + n % 10
@@ -112,13 +112,13 @@ sets-append l (x ∷ a) b i =
 pub decimal-bound : (x : ℕ) → length (decimal x) ≤ 20
 decimal-bound x = rw (decimal-length x) (width-bound 19 x)
 
-pub line-length : (number value : ℕ) → length (lineOf number value) ≡ length (decimal number) + suc (length (decimal value) + 1)
-unfolding lineOf
+pub line-length : (number value : ℕ) → length (answerLine number value) ≡ length (decimal number) + suc (length (decimal value) + 1)
+unfolding answerLine
 line-length number value =
     length-append (decimal number) (32 ∷ decimal value ++ (10 ∷ []))
     ∙ ap (λ (n : ℕ). length (decimal number) + suc n) (length-append (decimal value) (10 ∷ []))
 
-pub line-bound : (number value : ℕ) → length (lineOf number value) ≤ 42
+pub line-bound : (number value : ℕ) → length (answerLine number value) ≤ 42
 line-bound number value = omega (arith, line-length number value, decimal-bound number, decimal-bound value)
 
 -- a line ends within its buffer
@@ -126,16 +126,16 @@ pub line-shown : (number value : ℕ) (l : List ℕ) (at : ℕ) → at ≤ lengt
 unfolding lineBuffer lineEnd
 line-shown number value l at h = go (leb (at + 42) (length l)) refl
   where
-    go : (b : Bool) → leb (at + 42) (length l) ≡ b → cond b (at + length (lineOf number value)) at ≤ length (cond b (sets l at (lineOf number value)) l)
-    go true e = omega (arith, leb-true (at + 42) (length l) e, line-bound number value, length-sets l at (lineOf number value))
+    go : (b : Bool) → leb (at + 42) (length l) ≡ b → cond b (at + length (answerLine number value)) at ≤ length (cond b (sets l at (answerLine number value)) l)
+    go true e = omega (arith, leb-true (at + 42) (length l) e, line-bound number value, length-sets l at (answerLine number value))
     go false e = h
 
 module _ (number value at : ℕ) (l : List ℕ) {space end : ℕ} (s : space ≡ at + length (decimal number)) (e : end ≡ space + 1 + length (decimal value)) where
-  pub line-end : end + 1 ≡ at + length (lineOf number value)
+  pub line-end : end + 1 ≡ at + length (answerLine number value)
   line-end = omega (arith, line-length number value)
 
-  pub line-text : {first second : List ℕ} → first ≡ sets l at (decimal number) → second ≡ sets (set first space 32) (space + 1) (decimal value) → set second end 10 ≡ sets l at (lineOf number value)
-  unfolding lineOf
+  pub line-text : {first second : List ℕ} → first ≡ sets l at (decimal number) → second ≡ sets (set first space 32) (space + 1) (decimal value) → set second end 10 ≡ sets l at (answerLine number value)
+  unfolding answerLine
   line-text f g =
       let start = at + length (decimal number) in
       let spaced = set (sets l at (decimal number)) start 32 in

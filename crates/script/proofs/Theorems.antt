@@ -8,9 +8,9 @@ use mathlib.Core.List.{List, _++_, append-assoc, append-nil}
 use lib.ListN.{drop, length, take, length-append, length-drop}
 use lib.Seq.{drop-append-add, drop-append-le, take-append-le}
 use Rattle.chip.specs.declared.chip.Chip.{Chip}
-use Rattle.script.specs.Line.{lineOf}
+use Rattle.script.specs.Line.{answerLine}
 use Rattle.script.specs.Record.{operationOf, runOf}
-use Rattle.script.specs.Run.{blockBuffer, blockCount, blockOf, chipAfter, chipOf, recordCount, textAfter, textOf}
+use Rattle.script.specs.Run.{blockBuffer, blockCount, blockOf, chipAfter, inputChip, recordCount, textAfter, inputText}
 
 -- what the bytes of one record do to a chip, and their line
 abbrev chipBy : List ℕ → Chip → Chip
@@ -19,7 +19,7 @@ chipBy bytes c = runOf (operationOf bytes) c .chip
 abbrev lineBy : List ℕ → Chip → List ℕ
 lineBy bytes c =
     let o = runOf (operationOf bytes) c in
-    lineOf (o .number) (o .value)
+    answerLine (o .number) (o .value)
 
 module _ (first rest : List ℕ) (n : ℕ) (whole : length first ≡ 12 * n) (c : Chip) where
   early : (k : ℕ) → suc k ≤ n → take 12 (drop (12 * k) (first ++ rest)) ≡ take 12 (drop (12 * k) first)
@@ -65,16 +65,16 @@ module _ (first rest : List ℕ) (n : ℕ) (whole : length first ≡ 12 * n) (c 
   records = omega arith
 
   -- the chip after an input is the chip after its rest, from where the first part left it
-  pub cut-chip : chipOf (first ++ rest) c ≡ chipOf rest (chipOf first c)
-  unfolding chipOf
+  pub cut-chip : inputChip (first ++ rest) c ≡ inputChip rest (inputChip first c)
+  unfolding inputChip
   cut-chip =
       ap (λ (m : ℕ). chipAfter m (first ++ rest) c) counted
       ∙ chip-late (recordCount (length rest))
       ∙ ap (λ (m : ℕ). chipAfter (recordCount (length rest)) rest (chipAfter m first c)) (sym records)
 
   -- and its text is the first part's, then the rest's
-  pub cut-text : textOf (first ++ rest) c ≡ textOf first c ++ textOf rest (chipOf first c)
-  unfolding chipOf textOf
+  pub cut-text : inputText (first ++ rest) c ≡ inputText first c ++ inputText rest (inputChip first c)
+  unfolding inputChip inputText
   cut-text =
       ap (λ (m : ℕ). textAfter m (first ++ rest) c) counted
       ∙ text-late (recordCount (length rest))
@@ -85,10 +85,10 @@ module _ (input out : List ℕ) (c : Chip) (room : 42 * recordCount (length inpu
   all : blockCount input (length out) ≡ recordCount (length input)
   all = omega arith
 
-  pub block-whole : blockOf input (length out) c ≡ record { chip = chipOf input c; records = recordCount (length input); written = length (textOf input c) }
-  unfolding blockOf chipOf textOf
+  pub block-whole : blockOf input (length out) c ≡ record { chip = inputChip input c; records = recordCount (length input); written = length (inputText input c) }
+  unfolding blockOf inputChip inputText
   block-whole = ap (λ (n : ℕ). record { chip = chipAfter n input c; records = n; written = length (textAfter n input c) }) all
 
-  pub buffer-whole : blockBuffer input out c ≡ textOf input c ++ drop (length (textOf input c)) out
-  unfolding blockBuffer textOf
+  pub buffer-whole : blockBuffer input out c ≡ inputText input c ++ drop (length (inputText input c)) out
+  unfolding blockBuffer inputText
   buffer-whole = ap (λ (n : ℕ). textAfter n input c ++ drop (length (textAfter n input c)) out) all

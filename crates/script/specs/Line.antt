@@ -17,12 +17,12 @@ unfoldable pub decimal : ℕ → List ℕ
 decimal x = digits 10 (widthOf 19 x) x
 
 -- the line: 32 is a space, 10 a newline
-unfoldable pub lineOf : ℕ → ℕ → List ℕ
-lineOf number value = decimal number ++ (32 ∷ decimal value ++ (10 ∷ []))
+unfoldable pub answerLine : ℕ → ℕ → List ℕ
+answerLine number value = decimal number ++ (32 ∷ decimal value ++ (10 ∷ []))
 
 -- where a line put at a place of a buffer ends, and the buffer then: where 42 places, the longest line's, aren't left, nothing happens
 unfoldable pub lineEnd : ℕ → ℕ → ℕ → ℕ → ℕ
-lineEnd number value room at = cond (leb (at + 42) room) (at + length (lineOf number value)) at
+lineEnd number value room at = cond (leb (at + 42) room) (at + length (answerLine number value)) at
 
 unfoldable pub lineBuffer : ℕ → ℕ → List ℕ → ℕ → List ℕ
-lineBuffer number value out at = cond (leb (at + 42) (length out)) (sets out at (lineOf number value)) out
+lineBuffer number value out at = cond (leb (at + 42) (length out)) (sets out at (answerLine number value)) out

@@ -13,15 +13,9 @@ use Rattle.script.specs.declared.operation.Operation.{Operation}
 use Rattle.script.specs.declared.operation.Operation.the-variants.{Bad, Reset, Write, Read, Ticks, Nodes, Events, Send}
 use Rattle.script.specs.declared.operation.Outcome.{Outcome}
 
--- "Reply 9: .. tick count above 4,294,967,295, mask above 65,535"
-abbrev pub ticks : ℕ → Operation
-ticks word = cond (ltb word (2 ^ 32)) (Ticks word) Bad
-
-abbrev pub nodes : ℕ → Operation
-nodes word = cond (ltb word (2 ^ 32)) (Nodes word) Bad
-
-abbrev pub events : ℕ → Operation
-events word = cond (ltb word (2 ^ 16)) (Events word) Bad
+-- "Reply 9: .. tick count above 4,294,967,295, mask above 65,535": a number of so many bits, or a bad record
+abbrev pub fitting : ℕ → (ℕ → Operation) → ℕ → Operation
+fitting bits f word = cond (ltb word (2 ^ bits)) (f word) Bad
 
 -- "Kinds: 0 hardware reset, 1 write, 2 read, 3 Timestamp ticks, 4 node ticks, 5 external events, 6 send one word. Fields a kind
 -- doesn't need are ignored. Reply 9: kind above 6"
@@ -30,9 +24,9 @@ byKind kind address lines word =
     cond (eqb kind 0) Reset
     (cond (eqb kind 1) (Write address word lines)
     (cond (eqb kind 2) (Read address)
-    (cond (eqb kind 3) (ticks word)
-    (cond (eqb kind 4) (nodes word)
-    (cond (eqb kind 5) (events word)
+    (cond (eqb kind 3) (fitting 32 Ticks word)
+    (cond (eqb kind 4) (fitting 32 Nodes word)
+    (cond (eqb kind 5) (fitting 16 Events word)
     (cond (eqb kind 6) Send Bad))))))
 
 -- "12-byte records: kind, address, lines, a zero byte, data (8 bytes, low first)"; "Reply 9: .. nonzero fourth byte, .. or a last part

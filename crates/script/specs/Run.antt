@@ -3,7 +3,7 @@ use Prim.Native.Nat.{ℕ, zero, suc, _+_, _*_, _/_, min}
 use mathlib.Core.List.{List, [], _++_}
 use lib.ListN.{drop, length, take}
 use Rattle.chip.specs.declared.chip.Chip.{Chip}
-use Rattle.script.specs.Line.{lineOf}
+use Rattle.script.specs.Line.{answerLine}
 use Rattle.script.specs.Record.{operationOf, runOf}
 use Rattle.script.specs.declared.block.Block.{Block}
 use Rattle.script.specs.declared.operation.Outcome.{Outcome}
@@ -25,18 +25,18 @@ chipAfter (suc n) input c = outcomeAt input n (chipAfter n input c) .chip
 abbrev pub lineAt : ℕ → List ℕ → Chip → List ℕ
 lineAt n input c =
     let o = outcomeAt input n (chipAfter n input c) in
-    lineOf (o .number) (o .value)
+    answerLine (o .number) (o .value)
 
 unfoldable pub textAfter : ℕ → List ℕ → Chip → List ℕ
 textAfter zero input c = []
 textAfter (suc n) input c = textAfter n input c ++ lineAt n input c
 
 -- the chip after a whole input, and the input's whole text, which stands behind the heading
-unfoldable pub chipOf : List ℕ → Chip → Chip
-chipOf input c = chipAfter (recordCount (length input)) input c
+unfoldable pub inputChip : List ℕ → Chip → Chip
+inputChip input c = chipAfter (recordCount (length input)) input c
 
-unfoldable pub textOf : List ℕ → Chip → List ℕ
-textOf input c = textAfter (recordCount (length input)) input c
+unfoldable pub inputText : List ℕ → Chip → List ℕ
+inputText input c = textAfter (recordCount (length input)) input c
 
 -- a block takes the records that an input has and that a buffer of this size has room for
 abbrev pub blockCount : List ℕ → ℕ → ℕ

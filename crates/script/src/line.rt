@@ -1,10 +1,10 @@
 // An answer as a line of text in a lent buffer.
 ghost use mathlib.Core.Path.{_≡_};
-ghost use Prim.Native.Nat.{_+_, _≤_, _<_};
+ghost use Prim.Native.Nat.{_+_, _≤_};
 ghost use lib.ListN.{length};
 ghost use lib.Seq.{sets};
 ghost use Rattle.io.specs.Digits.{digits};
-ghost use Rattle.script.specs.Line.{decimal, lineOf, lineBuffer, lineEnd, widthOf};
+ghost use Rattle.script.specs.Line.{decimal, lineBuffer, lineEnd, widthOf};
 
 // Puts a line at a place of the buffer and gives the place behind it; where 42 places are not left there, nothing happens.
 pub fn put_line(number: u64, value: u64, out: &mut [u8], at: usize) -> usize
@@ -24,7 +24,8 @@ pub fn put_line(number: u64, value: u64, out: &mut [u8], at: usize) -> usize
     end + 1
 }
 
-// Puts a number in decimal at a place of the buffer and gives the place behind it.
+// Puts a number in decimal at a place of the buffer and gives the place behind it. Replies and most values have up to three digits, which
+// are put without a loop for speed.
 fn put_decimal(n: u64, out: &mut [u8], at: usize) -> usize
     requires { ⌜ at + 20 ≤ length (now out) ⌝ }
     ensures { λ r. ⌜ r ≡ at + length (decimal n) ⌝ }

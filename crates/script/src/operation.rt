@@ -6,7 +6,7 @@ ghost use mathlib.Core.Path.{_≡_};
 ghost use Prim.Native.Nat.{_+_, _≤_, _<_, _^_};
 ghost use lib.ListN.{drop, length, take};
 ghost use Rattle.words.specs.Bytes.{number};
-ghost use Rattle.script.specs.Record.{byKind, events, nodes, operationOf, outcomeOf, runOf, ticks};
+ghost use Rattle.script.specs.Record.{byKind, fitting, operationOf, outcomeOf, runOf};
 
 // What a record asks for; Bad is reply 9.
 pub enum Operation {
@@ -57,7 +57,7 @@ fn by_kind(kind: u8, address: u8, lines: u8, word: u64) -> Operation
 }
 
 fn ticks(word: u64) -> Operation
-    ensures { λ r. ⌜ r ≡ ticks word ⌝ }
+    ensures { λ r. ⌜ r ≡ fitting 32 Operation.Ticks word ⌝ }
 {
     if word <= 4294967295 {
         return Operation::Ticks(word as u32);
@@ -66,7 +66,7 @@ fn ticks(word: u64) -> Operation
 }
 
 fn nodes(word: u64) -> Operation
-    ensures { λ r. ⌜ r ≡ nodes word ⌝ }
+    ensures { λ r. ⌜ r ≡ fitting 32 Operation.Nodes word ⌝ }
 {
     if word <= 4294967295 {
         return Operation::Nodes(word as u32);
@@ -75,7 +75,7 @@ fn nodes(word: u64) -> Operation
 }
 
 fn events(word: u64) -> Operation
-    ensures { λ r. ⌜ r ≡ events word ⌝ }
+    ensures { λ r. ⌜ r ≡ fitting 16 Operation.Events word ⌝ }
 {
     if word <= 65535 {
         return Operation::Events(word as u16);

@@ -5,7 +5,7 @@ use mathlib.Core.Path.{refl, ap, ap₂, _∙_}
 use mathlib.Core.List.{List}
 use lib.ListN.{drop, length, take}
 use lib.Seq.{take-at}
-use Rattle.script.specs.Run.{textOf}
+use Rattle.script.specs.Run.{inputText}
 use Rattle.script.specs.declared.block.Block.{Block}
 use Rattle.script.proofs.BlockLaws.{block-shown}
 use Rattle.script.proofs.Theorems.{block-whole, buffer-whole}
@@ -23,7 +23,7 @@ returns c =
     let a = c .before .before .before .before .before .before .args in
     let input : List ℕ = a .input .now in
     let out : List ℕ = a .text .now in
-    let text : List ℕ = textOf input (a .chip) in
+    let text : List ℕ = inputText input (a .chip) in
     let block = c .before .before .run-block .ensures .0 ∙ block-whole input out (a .chip) (c .before .before .before .before .before .before .pre) in
     let buffer = c .before .before .run-block .ensures .1 ∙ buffer-whole input out (a .chip) (c .before .before .before .before .before .before .pre) in (
       ap (λ (b : Block). b .chip) block,

@@ -7,7 +7,7 @@ use native.Mathlib.Omega.{arith}
 use lib.ListN.{length, length-set}
 use lib.Seq.{sets, length-sets}
 use borrow.Author.Tests.{le-leb, lt-leb}
-use Rattle.script.specs.Line.{decimal, lineBuffer, lineEnd, lineOf}
+use Rattle.script.specs.Line.{decimal, lineBuffer, lineEnd, answerLine}
 use Rattle.script.proofs.LineLaws.{decimal-bound, line-end, line-text}
 use Rattle.script.proofs.line.put_line.Statement.{statement}
 use Rattle.script.proofs.line.put_line.Tie as tie
@@ -18,8 +18,8 @@ returns c =
     let a = c .before .before .args in
     let room = length (a .out .now) in
     let test = lt-leb (a .at + 42) room (omega arith) in (
-      ap (λ (b : Bool). cond b (a .at + length (lineOf (a .number) (a .value))) (a .at)) (sym test),
-      ap (λ (b : Bool). cond b (sets (a .out .now) (a .at) (lineOf (a .number) (a .value))) (a .out .now)) (sym test),
+      ap (λ (b : Bool). cond b (a .at + length (answerLine (a .number) (a .value))) (a .at)) (sym test),
+      ap (λ (b : Bool). cond b (sets (a .out .now) (a .at) (answerLine (a .number) (a .value))) (a .out .now)) (sym test),
     )
 
 sub-if2 : tie.Need-sub-if2
@@ -31,8 +31,8 @@ returns-2 c =
     let a = c .before .before .before .args in
     let room = length (a .out .now) in
     let test = lt-leb (a .at + 42) room (omega arith) in (
-      ap (λ (b : Bool). cond b (a .at + length (lineOf (a .number) (a .value))) (a .at)) (sym test),
-      ap (λ (b : Bool). cond b (sets (a .out .now) (a .at) (lineOf (a .number) (a .value))) (a .out .now)) (sym test),
+      ap (λ (b : Bool). cond b (a .at + length (answerLine (a .number) (a .value))) (a .at)) (sym test),
+      ap (λ (b : Bool). cond b (sets (a .out .now) (a .at) (answerLine (a .number) (a .value))) (a .out .now)) (sym test),
     )
 
 put-decimal-requires : tie.Need-put-decimal-requires
@@ -80,8 +80,8 @@ returns-3 c =
     let test = le-leb (a .at + 42) room (omega arith) in
     let s = c .before .before .before .before .before .before .put-decimal .ensures .0 in
     let e = c .before .before .put-decimal2 .ensures .0 in (
-      line-end (a .number) (a .value) (a .at) (a .out .now) s e ∙ ap (λ (b : Bool). cond b (a .at + length (lineOf (a .number) (a .value))) (a .at)) (sym test),
-      line-text (a .number) (a .value) (a .at) (a .out .now) s e (c .before .before .before .before .before .before .put-decimal .ensures .1) (c .before .before .put-decimal2 .ensures .1) ∙ ap (λ (b : Bool). cond b (sets (a .out .now) (a .at) (lineOf (a .number) (a .value))) (a .out .now)) (sym test),
+      line-end (a .number) (a .value) (a .at) (a .out .now) s e ∙ ap (λ (b : Bool). cond b (a .at + length (answerLine (a .number) (a .value))) (a .at)) (sym test),
+      line-text (a .number) (a .value) (a .at) (a .out .now) s e (c .before .before .before .before .before .before .put-decimal .ensures .1) (c .before .before .put-decimal2 .ensures .1) ∙ ap (λ (b : Bool). cond b (sets (a .out .now) (a .at) (answerLine (a .number) (a .value))) (a .out .now)) (sym test),
     )
 
 pub put-line-spec : {M : Type 1} → statement M

@@ -1,4 +1,4 @@
--- `script::operation::quad` meets its contract: four bytes, each 256 times the one before. Assumes nothing.
+-- `script::operation::quad` meets its contract: four bytes, each counts 256 times the one before. Assumes nothing.
 use borrow.Author.Needs.{needs}
 use mathlib.Core.Path.{_≡_}
 use Prim.Native.Nat.{_+_, _*_}
