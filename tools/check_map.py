@@ -174,10 +174,12 @@ def check_versions(page):
         for word in proved + [law for _, law in refused]:
             if f"`{word}`" not in row:
                 faults.append(f"{PAGE}: the row of the idle version {name} doesn't name `{word}`")
-        for path, old, _ in changes:
-            count = text_of(path).count(old)
-            if count != 1:
-                faults.append(f"tools/idle.py: {name}: {count} times in {path}: {old.strip()}")
+        texts = {}
+        for path, old, new, *times in changes:
+            text = texts.get(path) or text_of(path)
+            if [text.count(old)] != (times or [1]):
+                faults.append(f"tools/idle.py: {name}: {text.count(old)} times in {path}: {old.strip()}")
+            texts[path] = text.replace(old, new)
     return faults
 
 

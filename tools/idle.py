@@ -1,5 +1,5 @@
 #!/usr/bin/env python3
-"""idle.py [NAME ..]: idle versions, document 01's and one of ours, tried as whole chips.
+"""idle.py [NAME ..]: idle versions and easy errors, document 01's and one of ours, tried as whole chips.
 
 A must-fail edit changes one crate. Here an idle version is made in a copy of the repository: code and definition are changed alike, and
 the proofs that name the changed number or test with them, so that the crates below still prove and only the statement that carries the
@@ -15,7 +15,11 @@ import tempfile
 
 ROOT = os.path.dirname(os.path.dirname(os.path.abspath(__file__)))
 
-# name: what it does, its changes (file, old text, new text), the crates that still prove, and the others with the law that refuses
+# a Resource sample's counters as they are, not as they were copied at its trigger
+SENT = (' .bank .shadows', ' .bank .values')
+
+# name: what it does, its changes (file, old text, new text), the crates that still prove, and the others with the law that refuses;
+# a change is made wherever its old text stands, and that is once unless the change ends with how often
 VERSIONS = {
     'room_for_seven': (
         'the queue is full with seven samples', [
@@ -48,6 +52,19 @@ VERSIONS = {
             ('crates/queue/proofs/queue/Queue/next_word/Proof.antt', 'sixteen) (a .t1 .sent) (omega arith))', 'sixteen) (a .t1 .sent % 1) (omega arith))'),
             ('crates/queue/proofs/queue/Queue/next_word/Proof.antt', '{n = a .t1 .sent}', '{n = a .t1 .sent % 1}'),
         ], [], [('queue', 'words-first')]),
+    'counters_taken_when_sent': (
+        "a Resource sample's counters are those of the moment at which its words are sent", [
+            ('crates/chip/src/chip.rt', 'let shadows = self.bank.shadows;', 'let shadows = self.bank.values;', 2),
+            ('crates/chip/specs/Chip.antt', *SENT, 3),
+            ('crates/chip/specs/Sent.antt', 'heldSample (c .bank .shadows)', 'heldSample (c .bank .values)'),
+            ('crates/chip/proofs/Refusals.antt', *SENT),
+            ('crates/chip/proofs/chip/Chip/send/Proof.antt', *SENT, 2),
+            ('crates/chip/proofs/chip/Chip/send_into/Proof.antt', *SENT, 2),
+            ('crates/chip/proofs/Sends.antt', *SENT, 33),
+            ('crates/chip/proofs/Bounds.antt', *SENT, 2),
+            ('crates/chip/proofs/Words.antt', 'within-length counterWidths (c .bank .shadows) (s .shadows)', 'within-length counterWidths (c .bank .values) (s .values)'),
+            ('crates/chip/proofs/Words.antt', '(c .bank .shadows)', '(c .bank .values)', 6),
+        ], ['chip', 'marked'], [('history', 'send-kept')]),
     'first_sample_only': (
         'the first trigger is honoured, the later ones are only answered "taken"', [
             ('crates/queue/src/queue.rt', 'if held < 8 {', 'if held < 1 {'),
@@ -64,11 +81,11 @@ VERSIONS = {
 
 
 def change(folder, changes):
-    for name, old, new in changes:
+    for name, old, new, *times in changes:
         path = os.path.join(folder, name)
         with open(path, encoding='utf-8') as file:
             text = file.read()
-        if text.count(old) != 1:
+        if [text.count(old)] != (times or [1]):
             sys.exit('idle: %s has this text %d times: %s' % (name, text.count(old), old))
         with open(path, 'w', encoding='utf-8') as file:
             file.write(text.replace(old, new))
