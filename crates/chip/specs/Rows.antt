@@ -8,9 +8,7 @@ use Rattle.queue.specs.Queue.{busy}
 use Rattle.chip.specs.Chip.{inside, lacksRoom}
 use Rattle.chip.specs.Place.{between}
 use Rattle.chip.specs.Operation.{Operation, opReset, opWrite, opRead, opTicks, opNodes, opEvents, opSend, opFill}
-use Rattle.chip.specs.Reply.{replyNumber}
 use Rattle.chip.specs.declared.chip.Chip.{Chip}
-use Rattle.chip.specs.declared.reply.Reply.{Reply}
 
 -- ---- addresses, by "Address map"
 
@@ -145,8 +143,8 @@ row0 op c =
     not (row15 op c || (row1 op c || (row2 op c || (row3 op c || (row4 op c || (row5 op c || (row6 op c || (row7 op c || (row8 op c || (row10 op c || row11 op c))))))))))
 
 -- "Refusals are 1 to 5, 9 and 15" (9 is the bench program's)
-abbrev pub refused : Reply → Bool
-refused r = between 1 5 (replyNumber r) || eqb (replyNumber r) 15
+abbrev pub refused : ℕ → Bool
+refused n = between 1 5 n || eqb n 15
 
 -- "112..127 Resource trigger"
 abbrev pub resourceTrigger : Operation → Bool
