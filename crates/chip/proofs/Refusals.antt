@@ -11,13 +11,14 @@ use Rattle.chip.specs.Fate.{Fate, isOff, isFiltered, isLost, isTold, isT
 use Rattle.chip.specs.Operation.{Operation, opReset, opWrite, opRead, opTicks, opNodes, opEvents, opSend, opFill, step}
 use Rattle.chip.specs.Place.{between, placeOf, registerOf}
 use Rattle.chip.specs.Reply.{Told}
-use Rattle.chip.specs.Rows.{refused, resourceTrigger}
+use Rattle.chip.specs.Rows.{refused, resourceHeld, resourceTrigger}
 use Rattle.chip.specs.declared.chip.Chip.{Chip}
 use Rattle.chip.specs.declared.place.Place.{Place}
 use Rattle.chip.specs.declared.place.Place.the-variants.{Beyond, Nowhere, Reset, Csr, Timestamp, Filter, Waits, Overruns, Mux, Clear, Enable, Disable, Source, Counter, Trigger}
 use Rattle.chip.specs.declared.reply.Reply.the-variants.{Lines, NoWord, Wait, Busy, Outside}
 use Rattle.chip.proofs.AddressLaws.{place-test}
 use Rattle.chip.proofs.ChipLaws.{by-bounds}
+use Rattle.chip.proofs.RoomLaws.{rows-busy}
 
 -- what a row but 0 says of the value and of the next record, by its number; `r` is for a Resource trigger
 abbrev valueAt : ℕ → ℕ
@@ -158,8 +159,10 @@ module _ (op : Operation) (c : Chip) where
   when-filtered e = kept-as 7 e
 
   -- 8: value "0", record "overrun rules"
-  pub when-lost : step op c .number ≡ 8 → (step op c .value ≡ 0) × (step op c .chip ≡ withControl (overran (full (c .queue)) (blocked (resourceTrigger op) (c .queue)) (c .control)) c)
-  when-lost e = kept-as 8 e
+  pub when-lost : step op c .number ≡ 8 → (step op c .value ≡ 0) × (step op c .chip ≡ withControl (overran (leb 8 (c .queue .held)) (resourceTrigger op && resourceHeld c) (c .control)) c)
+  when-lost e =
+      let k = kept-as 8 e in
+      (k .0, k .1 ∙ ap (λ (b : Bool). withControl (overran (leb 8 (c .queue .held)) (resourceTrigger op && b) (c .control)) c) (rows-busy c))
 
   -- 10: value "0", record "Wait Counter + 1"
   pub when-waiting : step op c .number ≡ 10 → (step op c .value ≡ 0) × (step op c .chip ≡ withControl (waited (c .control)) c)

@@ -2,7 +2,7 @@
 -- counters' reads, and for those by the definitions' own tests. Assumes nothing.
 use Prim.Native.Nat.{ℕ, _-_, _%_, _^_, _≤_, _<_}
 use native.Mathlib.Omega.{arith}
-use mathlib.Core.Path.{_≡_, refl, sym, ap, _∙_}
+use mathlib.Core.Path.{_≡_, refl, sym, ap, ap₂, _∙_}
 use mathlib.Core.Bool.{Bool, true, false, cond, not, _&&_, _||_}
 use mathlib.Core.List.{List, [], _∷_, map}
 use lib.Dec.{leb, ltb, eqb}
@@ -16,7 +16,7 @@ use Rattle.chip.specs.Fate.{fate}
 use Rattle.chip.specs.Operation.{Operation, opReset, opWrite, opRead, opTicks, opNodes, opEvents, opSend, opFill, step}
 use Rattle.chip.specs.Place.{placeOf, registerOf}
 use Rattle.chip.specs.Reply.{Told, replyNumber, told}
-use Rattle.chip.specs.Rows.{counterAt, mapped, lacking, passes, readOnly, row0, row1, row2, row3, row4, row5, row6, row7, row8, row10, row11, row15, triggering, vacant, writeOnly}
+use Rattle.chip.specs.Rows.{counterAt, mapped, passes, readOnly, row0, row1, row2, row3, row4, row5, row6, row7, row8, row10, row11, row15, triggering, vacant, writeOnly}
 use Rattle.chip.specs.declared.chip.Answer.{Answer}
 use Rattle.chip.specs.declared.chip.Chip.{Chip}
 use Rattle.chip.specs.declared.place.Place.{Place}
@@ -26,6 +26,7 @@ use Rattle.chip.specs.declared.reply.Reply.the-variants.{Done, TooHigh, 
 use Rattle.chip.proofs.AddressLaws.{or-rest, place-beyond, place-counter, place-trigger, same, same-eq, upTo-at}
 use Rattle.chip.proofs.ChipLaws.{by-bounds}
 use Rattle.chip.proofs.LineLaws.{one-line}
+use Rattle.chip.proofs.RoomLaws.{rows-busy, rows-room}
 
 -- ---- the rows by their tests
 
@@ -93,6 +94,10 @@ tests-counter a h e =
 
 -- ---- each operation
 
+-- "lacks room", as the definitions have it
+abbrev short : Chip → ℕ → Bool
+short c a = lacksRoom (leb 112 a) (c .queue)
+
 module _ (a word lines : ℕ) (c : Chip) where
   written-trigger : (r o s f l w : Bool) → marks (cond o (triggerBy (fate s f l w) r (lineOf lines) word c) (replied Lines c) .number) ≡ writeRows true (false ∷ false ∷ false ∷ true ∷ true ∷ false ∷ []) o s f l w
   unfolding triggerBy
@@ -103,12 +108,12 @@ module _ (a word lines : ℕ) (c : Chip) where
   written-trigger r true true true true true = refl
   written-trigger r true true true true false = refl
 
-  written : marks (writeAt (placeOf a) word lines c .number) ≡ writeRows true (tests a) (oneLine lines) (c .control .sampling) (passes c a) (lacking c a) (c .control .writewait)
+  written : marks (writeAt (placeOf a) word lines c .number) ≡ writeRows true (tests a) (oneLine lines) (c .control .sampling) (passes c a) (short c a) (c .control .writewait)
   unfolding writeAt trigger placeOf registerOf
   written = go (ltb 127 a) refl (triggering a) refl
     where
       by : List Bool → List Bool
-      by t = writeRows true t (oneLine lines) (c .control .sampling) (passes c a) (lacking c a) (c .control .writewait)
+      by t = writeRows true t (oneLine lines) (c .control .sampling) (passes c a) (short c a) (c .control .writewait)
 
       kind : (r : Bool) → marks (writeAt (Trigger r (a % 16)) word lines c .number) ≡ writeRows true (false ∷ false ∷ false ∷ true ∷ true ∷ false ∷ []) (oneLine lines) (c .control .sampling) (passes c a) (lacksRoom r (c .queue)) (c .control .writewait)
       kind r = written-trigger r (oneLine lines) (c .control .sampling) (passes c a) (lacksRoom r (c .queue)) (c .control .writewait)
@@ -121,7 +126,7 @@ module _ (a word lines : ℕ) (c : Chip) where
           ap (λ (x : Place). marks (writeAt x word lines c .number)) (place-trigger a q) ∙ kind (leb 112 a)
           ∙ sym (ap by (tests-trigger a (omega (arith, ltb-false 127 a p)) q))
       go false p false q =
-          same-eq _ _ (or-rest (triggering a) _ (upTo-at 128 (λ b. triggering b || same (marks (writeAt (placeOf b) word lines c .number)) (writeRows true (tests b) (oneLine lines) (c .control .sampling) (passes c b) (lacking c b) (c .control .writewait))) refl a (omega (arith, ltb-false 127 a p))) q)
+          same-eq _ _ (or-rest (triggering a) _ (upTo-at 128 (λ b. triggering b || same (marks (writeAt (placeOf b) word lines c .number)) (writeRows true (tests b) (oneLine lines) (c .control .sampling) (passes c b) (short c b) (c .control .writewait))) refl a (omega (arith, ltb-false 127 a p))) q)
 
 module _ (a : ℕ) (c : Chip) where
   counted : (b w : Bool) (x y z : Chip) (v : ℕ) → marks (cond b (cond w (replied Wait x) (replied Busy y)) (done v z) .number) ≡ readRows true (false ∷ false ∷ false ∷ false ∷ false ∷ true ∷ []) b w
@@ -174,11 +179,12 @@ unfolding write read timestampTicks nodeTicks externalEvents send sendInto
 all-rows opReset c = marks-reset (inside c)
 all-rows (opWrite a word lines) c =
     marks-guarded (inside c) c (writeAt (placeOf a) word lines c)
-    (λ i. writeRows i (tests a) (oneLine lines) (c .control .sampling) (passes c a) (lacking c a) (c .control .writewait))
+    (λ i. writeRows i (tests a) (oneLine lines) (c .control .sampling) (passes c a) (short c a) (c .control .writewait))
     (written a word lines c) refl
-    ∙ ap (λ (o : Bool). writeRows (inside c) (tests a) o (c .control .sampling) (passes c a) (lacking c a) (c .control .writewait)) (one-line lines)
+    ∙ ap₂ (λ (o l : Bool). writeRows (inside c) (tests a) o (c .control .sampling) (passes c a) l (c .control .writewait)) (one-line lines) (rows-room c a)
 all-rows (opRead a) c =
     marks-guarded (inside c) c (readAt (placeOf a) c) (λ i. readRows i (tests a) (busy (c .queue)) (c .control .readwait)) (seen a c) refl
+    ∙ ap (λ (b : Bool). readRows (inside c) (tests a) b (c .control .readwait)) (rows-busy c)
 all-rows (opTicks k) c = marks-done (inside c) c _ 0
 all-rows (opNodes k) c = marks-done (inside c) c _ 0
 all-rows (opEvents mask) c = marks-done (inside c) c _ 0
