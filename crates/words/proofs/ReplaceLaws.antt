@@ -14,6 +14,10 @@ module _ {A : Type 0} where
   abbrev pub replaced : List A → ℕ → A → ℕ → List A
   replaced l at v i = cond (ltb at i) (set l at v) l
 
+  -- none visited
+  pub replaced-none : (l : List A) (at : ℕ) (v : A) → l ≡ replaced l at v 0
+  replaced-none l at v = sym (ap (λ (b : Bool). cond b (set l at v) l) (le-ltb at 0 (omega arith)))
+
   -- a visit as the loop makes it: at its place it stores the new element, at any other what it read there
   pub replaced-suc : (l now : List A) (at i : ℕ) (v d kept : A) → now ≡ replaced l at v i → kept ≡ cond (eqb i at) v (getD now i d) → set now i kept ≡ replaced l at v (suc i)
   replaced-suc l now at i v d kept e p = go (eqb i at) refl
