@@ -29,7 +29,7 @@ pub struct Queue {
 // A queue after one word was sent, and the word.
 pub struct Sent {
     pub queue: Queue,
-    pub word: u64,
+    pub word: u16,
 }
 
 // A queue after some words were sent into a buffer, and how many.
@@ -113,16 +113,19 @@ impl Queue {
         self
     }
 
-    // The next word, and the queue after it: with a sample's last word its place is free.
+    // The next word, and the queue after it: with a sample's last word its place is free. With nothing held the word is 0.
     pub fn send(self, shadows: [u32; 16]) -> Sent
         ensures { λ r. ⌜ r ≡ sendOne shadows self ⌝ }
     {
+        if self.held == 0 {
+            return Sent {
+                queue: self,
+                word: 0,
+            };
+        }
         let word = self.next_word(shadows);
         let queue = self.advanced();
-        Sent {
-            queue,
-            word: word as u64,
-        }
+        Sent { queue, word }
     }
 }
 
