@@ -175,7 +175,7 @@ impl Chip {
             let sent = self.queue.send(shadows);
             let queue = sent.queue;
             self.queue = queue;
-            return self.done(sent.word);
+            return self.done(sent.word as u64);
         }
         self.replied(Reply::Outside)
     }
