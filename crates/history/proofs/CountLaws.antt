@@ -10,9 +10,12 @@ use lib.Dec.{eqb}
 use lib.ListN.{length, getD, length-map, List·getD-map}
 use borrow.Author.Tests.{eqb-true, eqb-false}
 use Rattle.counters.specs.Bank.{bit, each, grown}
+use Rattle.counters.specs.Due.{selects}
+use Rattle.counters.specs.declared.switches.Kind.{Kind}
+use Rattle.counters.specs.declared.switches.Kind.the-variants.{Slow, External, Software, Node}
 use Rattle.counters.proofs.BitLaws.{half-bit}
 use Rattle.counters.proofs.EachLaws.{each-is}
-use Rattle.history.specs.Ledger.{Counter, counted, eachFrom, fieldOf, noCounter, packed}
+use Rattle.history.specs.Ledger.{Counter, eachFrom, noCounter, packed}
 
 -- a number modulo 2^32
 abbrev pub wrapped : ℕ → ℕ
@@ -48,6 +51,11 @@ pub each-same : {B : Type 0} (g : Counter → B) (i : ℕ) (f : ℕ → Counter 
 unfolding eachFrom
 each-same g i f [] h = refl
 each-same g i f (k ∷ ks) h = ap₂ (λ x l. x ∷ l) (h i k) (each-same g (suc i) f ks h)
+
+-- what is done to a counter under a test keeps what it doesn't change
+pub under : {B : Type 0} (g : Counter → B) (t : Bool) (x k : Counter) → g x ≡ g k → g (cond t x k) ≡ g k
+under g true x k e = e
+under g false x k e = refl
 
 -- ---- a register, bit by bit
 
@@ -85,10 +93,22 @@ packed-is g (k ∷ ks) x h p =
     go true e r = let one : x / 1 % 2 ≡ 1 = eqb-true (x / 1 % 2) 1 e in omega arith
     go false e r = let none : x / 1 % 2 ≡ 1 → ⊥ = eqb-false (x / 1 % 2) 1 e in omega arith
 
--- after something is done to each counter
-pub packed-each : (g : Counter → Bool) (f : ℕ → Counter → Counter) (ks : List Counter) (x : ℕ) → x < 2 ^ length ks → ((j : ℕ) → j < length ks → bit x j ≡ g (f j (getD ks j noCounter))) → x ≡ packed g (eachFrom 0 f ks)
-packed-each g f ks x h p =
-    packed-is g (eachFrom 0 f ks) x (rw each-length h) (λ j q. let q′ : j < length ks = rw each-length at q in p j q′ ∙ ap g (sym (each-at f ks j q′)))
+-- after something is done to each of n counters
+pub packed-each : (g : Counter → Bool) (f : ℕ → Counter → Counter) (ks : List Counter) (n x : ℕ) → length ks ≡ n → x < 2 ^ n → ((j : ℕ) → j < n → bit x j ≡ g (f j (getD ks j noCounter))) → x ≡ packed g (eachFrom 0 f ks)
+packed-each g f ks n x e h p =
+    let long : length (eachFrom 0 f ks) ≡ n = each-length 0 f ks ∙ e in
+    packed-is g (eachFrom 0 f ks) x (rw long h)
+    (λ j q. let q′ : j < n = rw long at q in p j q′ ∙ ap g (sym (each-at f ks j (rw e q′))))
+
+-- it has no other bits
+pub packed-lt : (g : Counter → Bool) (ks : List Counter) → packed g ks < 2 ^ length ks
+unfolding packed
+packed-lt g [] = omega arith
+packed-lt g (k ∷ ks) = go (g k) (packed-lt g ks)
+  where
+    go : (b : Bool) → packed g ks < 2 ^ length ks → cond b 1 0 + 2 * packed g ks < 2 ^ suc (length ks)
+    go true h = omega (arith, pow-suc 2 (length ks))
+    go false h = omega (arith, pow-suc 2 (length ks))
 
 -- ---- the counters' numbers
 
@@ -102,6 +122,31 @@ values-each g f ks p =
 
 pub value-at : (ks : List Counter) (i : ℕ) → getD (map valueOf ks) i 0 ≡ valueOf (getD ks i noCounter)
 value-at ks i = List·getD-map valueOf ks i noCounter
+
+-- "00 slow clock, 01 external, 10 software, 11 node clock": the chip's kinds and the ledger's numbers
+abbrev pub kindNumber : Kind → ℕ
+kindNumber Slow = 0
+kindNumber External = 1
+kindNumber Software = 2
+kindNumber Node = 3
+
+pub selects-field : (kind : Kind) (high low : Bool) → selects kind high low ≡ eqb (cond high 2 0 + cond low 1 0) (kindNumber kind)
+selects-field Slow true true = refl
+selects-field Slow true false = refl
+selects-field Slow false true = refl
+selects-field Slow false false = refl
+selects-field External true true = refl
+selects-field External true false = refl
+selects-field External false true = refl
+selects-field External false false = refl
+selects-field Software true true = refl
+selects-field Software true false = refl
+selects-field Software false true = refl
+selects-field Software false false = refl
+selects-field Node true true = refl
+selects-field Node true false = refl
+selects-field Node false true = refl
+selects-field Node false false = refl
 
 -- n events that count under a test
 pub counted-value : (a b : Bool) (n : ℕ) (k : Counter) → cond (a && b) (grown (valueOf k) n) (valueOf k) ≡ valueOf (cond a (cond b (record { on = k .on; high = k .high; low = k .low; events = k .events + n }) k) k)
