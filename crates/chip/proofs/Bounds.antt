@@ -25,14 +25,13 @@ use Rattle.chip.specs.Fate.{Fate, isOff, isFiltered, isLost, isTold, isT
 use Rattle.chip.specs.Operation.{Operation, opReset, opWrite, opRead, opTicks, opNodes, opEvents, opSend, opFill, step}
 use Rattle.chip.specs.Place.{placeOf}
 use Rattle.chip.specs.Repeat.{repeat}
-use Rattle.chip.specs.Reply.{replyNumber}
+use Rattle.chip.specs.Reply.{Told}
 use Rattle.chip.specs.Rows.{checked}
 use Rattle.chip.specs.Shape.{Shaped}
-use Rattle.chip.specs.declared.chip.Answer.{Answer}
 use Rattle.chip.specs.declared.chip.Chip.{Chip}
 use Rattle.chip.specs.declared.control.Control.{Control}
 use Rattle.chip.specs.declared.place.Place.{Place}
-use Rattle.chip.specs.declared.place.Place.the-variants.{Beyond, Nowhere, Reset, Csr, Timestamp, Filter, Waits, Overruns, Mux, Clear, Enable, Disable, Source, Counter, Trace, Resource}
+use Rattle.chip.specs.declared.place.Place.the-variants.{Beyond, Nowhere, Reset, Csr, Timestamp, Filter, Waits, Overruns, Mux, Clear, Enable, Disable, Source, Counter, Trigger}
 use Rattle.chip.specs.declared.reply.Reply.the-variants.{Lines, NoWord, Wait, Busy, Outside}
 use Rattle.chip.proofs.ChipLaws.{by-bounds, inside-by, inside-phase, inside-queue, inside-stamp}
 use Rattle.chip.proofs.Replies.{reply-15}
@@ -63,7 +62,7 @@ fresh-shaped = record { places = refl; sources = refl; values = refl; shadows = 
 -- ---- "and every operation keeps them"
 
 -- a statement on the next record
-guarded-keeps : (P : Chip → Type 0) (b : Bool) (c : Chip) (a : Answer) → P c → P (a .chip) → P (cond b a (replied Outside c) .chip)
+guarded-keeps : (P : Chip → Type 0) (b : Bool) (c : Chip) (a : Told) → P c → P (a .chip) → P (cond b a (replied Outside c) .chip)
 guarded-keeps P b c a p q = by-bounds (λ t x. P (x .chip)) b c a q p
 
 -- a trigger keeps what a lost one, one told to wait and a taken one keep
@@ -94,12 +93,11 @@ read-keeps P Disable c h k s = h
 read-keeps P (Source i) c h k s = h
 read-keeps P (Counter i) c h k s = go (busy (c .queue)) (c .control .readwait)
   where
-    go : (b w : Bool) → P (cond b (cond w (replied Wait (withControl (waited (c .control)) c)) (record { chip = c; value = 2 ^ 63; reply = Busy })) (done (getD (c .bank .values) i 0) (withBank (copied (c .bank)) c)) .chip)
+    go : (b w : Bool) → P (cond b (cond w (replied Wait (withControl (waited (c .control)) c)) (replied Busy c)) (done (getD (c .bank .values) i 0) (withBank (copied (c .bank)) c)) .chip)
     go true true = k _
     go true false = h
     go false w = s
-read-keeps P (Trace level) c h k s = h
-read-keeps P (Resource level) c h k s = h
+read-keeps P (Trigger r level) c h k s = h
 
 -- the bounds
 write-inside : (p : Place) (word lines : ℕ) (c : Chip) → inside c ≡ true → inside (writeAt p word lines c .chip) ≡ true
@@ -118,12 +116,9 @@ write-inside Enable word lines c h = h
 write-inside Disable word lines c h = h
 write-inside (Source i) word lines c h = h
 write-inside (Counter i) word lines c h = h
-write-inside (Trace level) word lines c h =
-    trigger-keeps (λ d. inside d ≡ true) false (oneLine lines) (fateOf false level c) (lineOf lines) word c h (λ k. h)
-    (take-inside false (lineOf lines) word c h)
-write-inside (Resource level) word lines c h =
-    trigger-keeps (λ d. inside d ≡ true) true (oneLine lines) (fateOf true level c) (lineOf lines) word c h (λ k. h)
-    (take-inside true (lineOf lines) word c h)
+write-inside (Trigger r level) word lines c h =
+    trigger-keeps (λ d. inside d ≡ true) r (oneLine lines) (fateOf r level c) (lineOf lines) word c h (λ k. h)
+    (take-inside r (lineOf lines) word c h)
 
 pub keeps-inside : (op : Operation) (c : Chip) → inside c ≡ true → inside (step op c .chip) ≡ true
 unfolding write read timestampTicks nodeTicks externalEvents send sendInto sendMany
@@ -209,10 +204,8 @@ write-shaped (Source i) word lines c s =
       shadows = s .shadows;
     }
 write-shaped (Counter i) word lines c s = counting-shaped (λ j. eqb j i && due Software (c .switches) j) 1 c s
-write-shaped (Trace level) word lines c s =
-    trigger-keeps Shaped false (oneLine lines) (fateOf false level c) (lineOf lines) word c s (λ k. s) (take-shaped false (lineOf lines) word c s)
-write-shaped (Resource level) word lines c s =
-    trigger-keeps Shaped true (oneLine lines) (fateOf true level c) (lineOf lines) word c s (λ k. s) (take-shaped true (lineOf lines) word c s)
+write-shaped (Trigger r level) word lines c s =
+    trigger-keeps Shaped r (oneLine lines) (fateOf r level c) (lineOf lines) word c s (λ k. s) (take-shaped r (lineOf lines) word c s)
 
 pub keeps-shaped : (op : Operation) (c : Chip) → Shaped c → Shaped (step op c .chip)
 unfolding write read timestampTicks nodeTicks externalEvents send sendInto sendMany
@@ -239,7 +232,7 @@ keeps-shaped (opFill room) c s =
     (shaped-queue c (sendQueue room (c .queue)) s (send-places room (c .queue) (s .places)))
 
 -- so 15 is never replied on the way
-pub never-15 : (op : Operation) (c : Chip) → inside c ≡ true → eqb (replyNumber (step op c .reply)) 15 ≡ false
+pub never-15 : (op : Operation) (c : Chip) → inside c ≡ true → eqb (step op c .number) 15 ≡ false
 never-15 op c h = reply-15 op c ∙ ap (λ (b : Bool). checked op && not b) h ∙ and-false (checked op)
 
 -- operations repeated keep the bounds

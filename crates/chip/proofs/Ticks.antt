@@ -12,8 +12,8 @@ use Rattle.counters.proofs.TickLaws.{counting-none, counting-twice}
 use Rattle.chip.specs.Chip.{afterTicks, done, inside, nodeTicks, timestampTicks, withBank}
 use Rattle.chip.specs.Operation.{Operation, opNodes, opTicks, step}
 use Rattle.chip.specs.Repeat.{repeat}
+use Rattle.chip.specs.Reply.{Told}
 use Rattle.chip.specs.Shape.{Shaped}
-use Rattle.chip.specs.declared.chip.Answer.{Answer}
 use Rattle.chip.specs.declared.chip.Chip.{Chip}
 use Rattle.chip.proofs.Bounds.{keeps-inside, keeps-shaped}
 use Rattle.chip.proofs.ChipLaws.{inside-phase, inside-stamp}
@@ -81,13 +81,13 @@ nodes-sum j k c = ap (λ (b : Bank). withBank b c) (counting-twice (due Node (c 
 
 module _ (k : ℕ) (c : Chip) (h : inside c ≡ true) (s : Shaped c) where
   ticks-chip : step (opTicks k) c .chip ≡ repeat k (opTicks 1) c
-  ticks-chip = repeated opTicks afterTicks (λ n d e. ap (λ (a : Answer). a .chip) (ticks-answer n d e)) ticks-none ticks-sum k c h s
+  ticks-chip = repeated opTicks afterTicks (λ n d e. ap (λ (a : Told). a .chip) (ticks-answer n d e)) ticks-none ticks-sum k c h s
 
   nodes-chip : step (opNodes k) c .chip ≡ repeat k (opNodes 1) c
-  nodes-chip = repeated opNodes afterNodes (λ n d e. ap (λ (a : Answer). a .chip) (nodes-answer n d e)) nodes-none nodes-sum k c h s
+  nodes-chip = repeated opNodes afterNodes (λ n d e. ap (λ (a : Told). a .chip) (nodes-answer n d e)) nodes-none nodes-sum k c h s
 
   pub ticks-single : step (opTicks k) c ≡ done 0 (repeat k (opTicks 1) c)
-  ticks-single = ticks-answer k c h ∙ ap (done 0) (sym (ap (λ (a : Answer). a .chip) (ticks-answer k c h)) ∙ ticks-chip)
+  ticks-single = ticks-answer k c h ∙ ap (done 0) (sym (ap (λ (a : Told). a .chip) (ticks-answer k c h)) ∙ ticks-chip)
 
   pub nodes-single : step (opNodes k) c ≡ done 0 (repeat k (opNodes 1) c)
-  nodes-single = nodes-answer k c h ∙ ap (done 0) (sym (ap (λ (a : Answer). a .chip) (nodes-answer k c h)) ∙ nodes-chip)
+  nodes-single = nodes-answer k c h ∙ ap (done 0) (sym (ap (λ (a : Told). a .chip) (nodes-answer k c h)) ∙ nodes-chip)

@@ -24,7 +24,6 @@ use Rattle.queue.proofs.QueueLaws.{held-sixteen}
 use Rattle.chip.specs.Chip.{done, fateOf, headerOf, inside, lineOf, oneLine, replied, sampleNow, takeSample, trigger, triggerBy, write, writeAt}
 use Rattle.chip.specs.Fate.{Fate, isOff, isFiltered, isLost, isTold, isTaken}
 use Rattle.chip.specs.Place.{placeOf}
-use Rattle.chip.specs.Reply.{replyNumber}
 use Rattle.chip.specs.Rows.{oneActive, triggering}
 use Rattle.chip.specs.Sent.{firstWords, takenSample}
 use Rattle.chip.specs.Operation.{opSend, opWrite, step}
@@ -32,9 +31,8 @@ use Rattle.chip.specs.Repeat.{given}
 use Rattle.chip.specs.Shape.{Shaped}
 use Rattle.chip.specs.declared.chip.Chip.{Chip}
 use Rattle.chip.specs.declared.place.Place.{Place}
-use Rattle.chip.specs.declared.place.Place.the-variants.{Trace, Resource}
-use Rattle.chip.specs.declared.reply.Reply.{Reply}
-use Rattle.chip.specs.declared.reply.Reply.the-variants.{Done, Lines, Off, Filtered, Lost, Wait, Outside}
+use Rattle.chip.specs.declared.place.Place.the-variants.{Trigger}
+use Rattle.chip.specs.declared.reply.Reply.the-variants.{Lines, Outside}
 use Rattle.chip.proofs.AddressLaws.{place-trigger}
 use Rattle.chip.proofs.LineLaws.{one-line}
 use Rattle.chip.proofs.Sends.{given-sends}
@@ -101,28 +99,27 @@ module _ (r : Bool) (line word : ℕ) (c : Chip) (small : line < 8) (s : Shaped 
 
 -- ---- "0 .. sample taken"
 
-differ : (x : Reply) → x ≡ Done → (eqb (replyNumber x) 0 ≡ false) → ⊥
-differ x e p = false≢true (sym p ∙ ap (λ (y : Reply). eqb (replyNumber y) 0) e)
+differ : (n : ℕ) → n ≡ 0 → eqb n 0 ≡ false → ⊥
+differ n e p = false≢true (sym p ∙ ap (λ (m : ℕ). eqb m 0) e)
 
-trigger-done : (o r : Bool) (f : Fate) (line word : ℕ) (c : Chip) → cond o (triggerBy f r line word c) (replied Lines c) .reply ≡ Done → (cond o (triggerBy f r line word c) (replied Lines c) ≡ done 0 (takeSample r line word c)) × (o ≡ true)
+trigger-done : (o r : Bool) (f : Fate) (line word : ℕ) (c : Chip) → cond o (triggerBy f r line word c) (replied Lines c) .number ≡ 0 → (cond o (triggerBy f r line word c) (replied Lines c) ≡ done 0 (takeSample r line word c)) × (o ≡ true)
 unfolding triggerBy
-trigger-done false r f line word c e = absurd (differ Lines e refl)
-trigger-done true r isOff line word c e = absurd (differ Off e refl)
-trigger-done true r isFiltered line word c e = absurd (differ Filtered e refl)
-trigger-done true r isLost line word c e = absurd (differ Lost e refl)
-trigger-done true r isTold line word c e = absurd (differ Wait e refl)
+trigger-done false r f line word c e = absurd (differ 4 e refl)
+trigger-done true r isOff line word c e = absurd (differ 6 e refl)
+trigger-done true r isFiltered line word c e = absurd (differ 7 e refl)
+trigger-done true r isLost line word c e = absurd (differ 8 e refl)
+trigger-done true r isTold line word c e = absurd (differ 10 e refl)
 trigger-done true r isTaken line word c e = (refl, refl)
 
 -- a trigger with reply 0 has exactly one active line and takes a sample
-pub trigger-takes : (a word lines : ℕ) (c : Chip) → triggering a ≡ true → step (opWrite a word lines) c .reply ≡ Done → (step (opWrite a word lines) c ≡ done 0 (takeSample (leb 112 a) (lineOf lines) word c)) × (oneActive lines ≡ true)
+pub trigger-takes : (a word lines : ℕ) (c : Chip) → triggering a ≡ true → step (opWrite a word lines) c .number ≡ 0 → (step (opWrite a word lines) c ≡ done 0 (takeSample (leb 112 a) (lineOf lines) word c)) × (oneActive lines ≡ true)
 unfolding write writeAt trigger
 trigger-takes a word lines c t e = guard (inside c) e
   where
-    kind : (r : Bool) → writeAt (cond r (Resource (a % 16)) (Trace (a % 16))) word lines c .reply ≡ Done → (writeAt (cond r (Resource (a % 16)) (Trace (a % 16))) word lines c ≡ done 0 (takeSample r (lineOf lines) word c)) × (oneActive lines ≡ true)
-    kind true q = let p = trigger-done (oneLine lines) true (fateOf true (a % 16) c) (lineOf lines) word c q in (p .0, sym (one-line lines) ∙ p .1)
-    kind false q = let p = trigger-done (oneLine lines) false (fateOf false (a % 16) c) (lineOf lines) word c q in (p .0, sym (one-line lines) ∙ p .1)
+    kind : (r : Bool) → writeAt (Trigger r (a % 16)) word lines c .number ≡ 0 → (writeAt (Trigger r (a % 16)) word lines c ≡ done 0 (takeSample r (lineOf lines) word c)) × (oneActive lines ≡ true)
+    kind r q = let p = trigger-done (oneLine lines) r (fateOf r (a % 16) c) (lineOf lines) word c q in (p .0, sym (one-line lines) ∙ p .1)
 
-    guard : (b : Bool) → cond b (writeAt (placeOf a) word lines c) (replied Outside c) .reply ≡ Done → (cond b (writeAt (placeOf a) word lines c) (replied Outside c) ≡ done 0 (takeSample (leb 112 a) (lineOf lines) word c)) × (oneActive lines ≡ true)
-    guard false q = absurd (differ Outside q refl)
+    guard : (b : Bool) → cond b (writeAt (placeOf a) word lines c) (replied Outside c) .number ≡ 0 → (cond b (writeAt (placeOf a) word lines c) (replied Outside c) ≡ done 0 (takeSample (leb 112 a) (lineOf lines) word c)) × (oneActive lines ≡ true)
+    guard false q = absurd (differ 15 q refl)
     guard true q =
-        subst (λ (p : Place). writeAt p word lines c .reply ≡ Done → (writeAt p word lines c ≡ done 0 (takeSample (leb 112 a) (lineOf lines) word c)) × (oneActive lines ≡ true)) (sym (place-trigger a t)) (kind (leb 112 a)) q
+        subst (λ (p : Place). writeAt p word lines c .number ≡ 0 → (writeAt p word lines c ≡ done 0 (takeSample (leb 112 a) (lineOf lines) word c)) × (oneActive lines ≡ true)) (sym (place-trigger a t)) (kind (leb 112 a)) q

@@ -4,6 +4,7 @@ use super::control::one;
 use super::place::Place;
 use super::place::find;
 use super::reply::Reply;
+use super::reply::value_of;
 use counters::bank::Bank;
 use counters::switches::Kind;
 use counters::switches::Switches;
@@ -14,6 +15,7 @@ ghost use mathlib.Core.Bool.{cond, false, true};
 ghost use Prim.Native.Nat.{ℕ, _<_, _≤_, _^_};
 ghost use lib.ListN.{getD, length, set};
 ghost use Rattle.counters.specs.Bank.{copied};
+ghost use Rattle.chip.specs.Reply.{told};
 ghost use Rattle.chip.specs.Chip.{afterTicks, blocked, done, externalEvents, fresh, hardReset, inside, nodeTicks, noneHeld, read, readAt, readCounter, replied, sampleNow, send, sendInto, sentBuffer, softReset, takeSample, timestampTicks, trigger, triggerBy, fateOf, withBank, withControl, withSources, withStamp, withSwitches, write, writeAt};
 
 // Wide parts first: no padding (400 bytes).
@@ -74,7 +76,7 @@ impl Chip {
     }
 
     pub fn hardware_reset(self) -> Answer
-        ensures { λ r. ⌜ r ≡ hardReset self ⌝ }
+        ensures { λ r. ⌜ told r ≡ hardReset self ⌝ }
     {
         Chip::fresh().done(0)
     }
@@ -90,7 +92,7 @@ impl Chip {
 
     // Done, with a value.
     fn done(self, value: u64) -> Answer
-        ensures { λ r. ⌜ r ≡ done value self ⌝ }
+        ensures { λ r. ⌜ told r ≡ done value self ⌝ }
     {
         Answer {
             chip: self,
@@ -99,13 +101,13 @@ impl Chip {
         }
     }
 
-    // This chip, with a reply and the value 0.
+    // This chip, with another reply.
     fn replied(self, reply: Reply) -> Answer
-        ensures { λ r. ⌜ r ≡ replied reply self ⌝ }
+        ensures { λ r. ⌜ told r ≡ replied reply self ⌝ }
     {
         Answer {
             chip: self,
-            value: 0,
+            value: value_of(reply),
             reply,
         }
     }
@@ -113,7 +115,7 @@ impl Chip {
 
 impl Chip {
     pub fn write(self, address: u64, word: u64, lines: u8) -> Answer
-        ensures { λ r. ⌜ r ≡ write address word lines self ⌝ }
+        ensures { λ r. ⌜ told r ≡ write address word lines self ⌝ }
     {
         if self.inside() {
             return self.write_at(find(address), word, lines);
@@ -122,7 +124,7 @@ impl Chip {
     }
 
     pub fn read(self, address: u64) -> Answer
-        ensures { λ r. ⌜ r ≡ read address self ⌝ }
+        ensures { λ r. ⌜ told r ≡ read address self ⌝ }
     {
         if self.inside() {
             return self.read_at(find(address));
@@ -131,7 +133,7 @@ impl Chip {
     }
 
     pub fn timestamp_ticks(self, count: u32) -> Answer
-        ensures { λ r. ⌜ r ≡ timestampTicks count self ⌝ }
+        ensures { λ r. ⌜ told r ≡ timestampTicks count self ⌝ }
     {
         if self.inside() {
             return self.after_ticks(count).done(0);
@@ -140,7 +142,7 @@ impl Chip {
     }
 
     pub fn node_ticks(mut self, count: u32) -> Answer
-        ensures { λ r. ⌜ r ≡ nodeTicks count self ⌝ }
+        ensures { λ r. ⌜ told r ≡ nodeTicks count self ⌝ }
     {
         if self.inside() {
             let bank = self.bank.ticked(self.switches, Kind::Node, count);
@@ -151,7 +153,7 @@ impl Chip {
     }
 
     pub fn external_events(mut self, mask: u16) -> Answer
-        ensures { λ r. ⌜ r ≡ externalEvents mask self ⌝ }
+        ensures { λ r. ⌜ told r ≡ externalEvents mask self ⌝ }
     {
         if self.inside() {
             let bank = self.bank.signalled(self.switches, mask);
@@ -163,7 +165,7 @@ impl Chip {
 
     // The next word, if there is one.
     pub fn send(mut self) -> Answer
-        ensures { λ r. ⌜ r ≡ send self ⌝ }
+        ensures { λ r. ⌜ told r ≡ send self ⌝ }
     {
         if self.inside() {
             if none_held(self.queue.held) {
@@ -173,14 +175,14 @@ impl Chip {
             let sent = self.queue.send(shadows);
             let queue = sent.queue;
             self.queue = queue;
-            return self.done(sent.word);
+            return self.done(sent.word as u64);
         }
         self.replied(Reply::Outside)
     }
 
     // As many words as the buffer has places or as are left.
     pub fn send_into(mut self, out: &mut [u16]) -> Answer
-        ensures { λ r. ⌜ r ≡ sendInto (length (now (out .entry))) self ⌝ }
+        ensures { λ r. ⌜ told r ≡ sendInto (length (now (out .entry))) self ⌝ }
         ensures { λ r. ⌜ now (out .exit) ≡ sentBuffer self (now (out .entry)) ⌝ }
     {
         if self.inside() {
@@ -195,9 +197,9 @@ impl Chip {
 }
 
 impl Chip {
-    // A write, by what stands at the address. Both kinds of trigger share one call, so that the compiler keeps the record in place.
+    // A write, by what stands at the address.
     fn write_at(self, place: Place, word: u64, lines: u8) -> Answer
-        ensures { λ r. ⌜ r ≡ writeAt place word lines self ⌝ }
+        ensures { λ r. ⌜ told r ≡ writeAt place word lines self ⌝ }
     {
         match place {
             Place::Beyond => self.replied(Reply::TooHigh),
@@ -215,15 +217,13 @@ impl Chip {
             Place::Disable => self.switched(self.switches.disabling(word)).done(0),
             Place::Source(i) => self.sourced(i, (word % 4294967296) as u32).done(0),
             Place::Counter(i) => self.banked(self.bank.fired(self.switches, i)).done(0),
-            Place::Trace(level) | Place::Resource(level) => {
-                self.trigger(takes_counters(place), level, word, lines)
-            }
+            Place::Trigger(resource, level) => self.trigger(resource, level, word, lines),
         }
     }
 
     // A read, by what stands at the address.
     fn read_at(self, place: Place) -> Answer
-        ensures { λ r. ⌜ r ≡ readAt place self ⌝ }
+        ensures { λ r. ⌜ told r ≡ readAt place self ⌝ }
     {
         match place {
             Place::Beyond => self.replied(Reply::TooHigh),
@@ -240,8 +240,7 @@ impl Chip {
             Place::Disable => self.replied(Reply::Forbidden),
             Place::Source(i) => self.done(self.source(i) as u64),
             Place::Counter(i) => self.read_counter(i),
-            Place::Trace(_) => self.replied(Reply::Forbidden),
-            Place::Resource(_) => self.replied(Reply::Forbidden),
+            Place::Trigger(_, _) => self.replied(Reply::Forbidden),
         }
     }
 
@@ -299,17 +298,13 @@ impl Chip {
 
     // A counter through the shadows, or a wait, or no data.
     fn read_counter(self, index: usize) -> Answer
-        ensures { λ r. ⌜ r ≡ readCounter index self ⌝ }
+        ensures { λ r. ⌜ told r ≡ readCounter index self ⌝ }
     {
         if self.queue.busy() {
             if self.control.readwait {
                 return self.controlled(self.control.waited()).replied(Reply::Wait);
             }
-            return Answer {
-                chip: self,
-                value: 9223372036854775808,
-                reply: Reply::Busy,
-            };
+            return self.replied(Reply::Busy);
         }
         self.banked(self.bank.copied())
             .done(self.bank.value(index) as u64)
@@ -333,7 +328,7 @@ impl Chip {
 impl Chip {
     // A trigger, by its line, the settings, the Filter and the room.
     fn trigger(self, resource: bool, level: usize, word: u64, lines: u8) -> Answer
-        ensures { λ r. ⌜ r ≡ trigger resource level word lines self ⌝ }
+        ensures { λ r. ⌜ told r ≡ trigger resource level word lines self ⌝ }
     {
         if u8::count_ones(lines) == 1 {
             let line = u8::trailing_zeros(lines);
@@ -345,7 +340,7 @@ impl Chip {
     // The same, of a trigger with one active line.
     fn trigger_line(self, resource: bool, level: usize, word: u64, line: u32) -> Answer
         requires { ⌜ line ≤ 8 ⌝ }
-        ensures { λ r. ⌜ r ≡ triggerBy (fateOf resource level self) resource line word self ⌝ }
+        ensures { λ r. ⌜ told r ≡ triggerBy (fateOf resource level self) resource line word self ⌝ }
     {
         let control = self.control;
         if !control.sampling {
@@ -416,15 +411,4 @@ fn none_held(held: usize) -> bool
     ensures { λ r. ⌜ r ≡ noneHeld held ⌝ }
 {
     held == 0
-}
-
-// Whether a trigger's place is a Resource trigger's.
-fn takes_counters(place: Place) -> bool
-    ensures { λ r. ⌜ ((level : ℕ) → place ≡ Place.Trace level → r ≡ false) ⌝ }
-    ensures { λ r. ⌜ ((level : ℕ) → place ≡ Place.Resource level → r ≡ true) ⌝ }
-{
-    match place {
-        Place::Resource(_) => true,
-        _ => false,
-    }
 }

@@ -57,7 +57,7 @@ bit-mod k x i h =
     ∙ ap (λ (n : ℕ). eqb n 1) (mod-mod-pow (x / 2 ^ i) j 1)
 
 -- the next bit is that of half the number
-half-bit : (x i : ℕ) → x / 2 ^ suc i ≡ x / 2 / 2 ^ i
+pub half-bit : (x i : ℕ) → x / 2 ^ suc i ≡ x / 2 / 2 ^ i
 half-bit x i = ap (λ (n : ℕ). x / 2 ^ n) (sym (one-add i)) ∙ sym (shr-shr x 1 i)
 
 -- the bits that a number of k bits lacks

@@ -11,13 +11,12 @@ use borrow.Author.Tests.{lt-ltb}
 use Rattle.counters.specs.declared.switches.Switches.{Switches}
 use Rattle.queue.specs.declared.queue.Queue.{Queue}
 use Rattle.chip.specs.Chip.{guarded, inside}
-use Rattle.chip.specs.Reply.{replyNumber}
-use Rattle.chip.specs.declared.chip.Answer.{Answer}
+use Rattle.chip.specs.Reply.{Told}
 use Rattle.chip.specs.declared.chip.Chip.{Chip}
 use Rattle.chip.specs.declared.control.Control.{Control}
 use Rattle.chip.proofs.ChipLaws.{guard-in}
-use Rattle.history.specs.Ledger.{Ledger, Told}
-use Rattle.history.proofs.CountLaws.{wrapped}
+use Rattle.history.specs.Ledger.{Entry, Ledger, packed}
+use Rattle.history.proofs.CountLaws.{valueOf, wrapped}
 use Rattle.history.proofs.HeldLaws.{Sixteen}
 use Rattle.history.proofs.HoldsLaws.{Holds, holds-inside}
 
@@ -35,8 +34,10 @@ controlOf l =
       lost = l .errors .mark;
     }
 
+-- bit i of each register is counter i's
 abbrev pub switchesOf : Ledger → Switches
-switchesOf l = record { enabled = l .select .enabled; low = l .select .low; high = l .select .high; phase = l .ticks % 10 }
+switchesOf l =
+    record { enabled = packed (λ k. k .on) (l .counters); low = packed (λ k. k .low) (l .counters); high = packed (λ k. k .high) (l .counters); phase = l .ticks % 10 }
 
 -- the record that a ledger leaves, with a queue and shadows
 abbrev pub chipFor : Ledger → Queue → List ℕ → Chip
@@ -44,7 +45,7 @@ chipFor l q sh =
     record {
       stamp = l .clock % 2 ^ 56;
       queue = q;
-      bank = record { values = map wrapped (l .events); shadows = sh };
+      bank = record { values = map valueOf (l .counters); shadows = sh };
       sources = l .sources;
       control = controlOf l;
       switches = switchesOf l;
@@ -54,7 +55,7 @@ chipFor l q sh =
 pub record Good (l : Ledger) (q : Queue) (sh : List ℕ) : Type 0 where
   pub holds : Holds (l .taken) (l .sent) sh q
   pub sixteen : Sixteen (l .taken)
-  pub events : length (l .events) ≡ 16
+  pub counters : length (l .counters) ≡ 16
 
 pub record Agrees (l : Ledger) (c : Chip) : Type 0 where
   pub queue : Queue
@@ -62,11 +63,11 @@ pub record Agrees (l : Ledger) (c : Chip) : Type 0 where
   pub is : c ≡ chipFor l queue shadows
   pub good : Good l queue shadows
 
--- an answer that gives the reply that is told and leaves a record for the ledger after it
-pub record Kept (t : Told) (a : Answer) : Type 0 where
-  pub agrees : Agrees (t .ledger) (a .chip)
-  pub number : replyNumber (a .reply) ≡ t .number
-  pub value : a .value ≡ t .value
+-- what the chip tells is the ledger's number and value, and leaves a record for the ledger after it
+pub record Kept (e : Entry) (t : Told) : Type 0 where
+  pub agrees : Agrees (e .ledger) (t .chip)
+  pub number : t .number ≡ e .number
+  pub value : t .value ≡ e .value
 
 -- such a record is inside its bounds, so no operation replies 15
 pub for-inside : (l : Ledger) (q : Queue) (sh : List ℕ) → Good l q sh → inside (chipFor l q sh) ≡ true
@@ -75,5 +76,5 @@ for-inside l q sh g =
     (ap₂ (λ (a b : Bool). a && b) (lt-ltb (l .ticks % 10) 10 (mod-lt (l .ticks) (zero-lt-suc 9)))
     (lt-ltb (l .clock % 2 ^ 56) (2 ^ 56) (mod-lt (l .clock) (pow-pos 56))))
 
-pub kept-guarded : (l : Ledger) (q : Queue) (sh : List ℕ) (t : Told) (a : Answer) → Good l q sh → Kept t a → Kept t (guarded (chipFor l q sh) a)
-kept-guarded l q sh t a g k = subst (Kept t) (guard-in (chipFor l q sh) a (for-inside l q sh g)) k
+pub kept-guarded : (l : Ledger) (q : Queue) (sh : List ℕ) (e : Entry) (t : Told) → Good l q sh → Kept e t → Kept e (guarded (chipFor l q sh) t)
+kept-guarded l q sh e t g k = subst (Kept e) (guard-in (chipFor l q sh) t (for-inside l q sh g)) k

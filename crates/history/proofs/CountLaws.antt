@@ -1,12 +1,21 @@
--- Counters and the ledger's events: each counter is its events modulo 2^32, and stays so whatever happens. Assumes nothing.
-use Prim.Native.Nat.{ℕ, suc, _+_, _-_, _/_, _%_, _^_}
-use native.Mathlib.Nat.{mod-add-mod}
+-- Counters and the ledger's own: each register of the chip is the ledger's counters bit by bit, each counter is its events modulo 2^32, and
+-- both stay so whatever happens. Assumes nothing.
+use Prim.Native.Nat.{ℕ, zero, suc, _+_, _-_, _*_, _/_, _%_, _^_, _<_, suc-le-suc}
+use native.Mathlib.Nat.{mod-add-mod, zero-add, suc-add, add-zero, add-suc, le-of-suc-le-suc, not-suc-le-zero, pow-suc, zero-lt-suc}
 use native.Mathlib.Omega.{arith}
-use mathlib.Core.Path.{_≡_, refl, sym, ap₂}
-use mathlib.Core.Bool.{Bool, true, false, cond}
+use mathlib.Core.Path.{_≡_, refl, sym, ap, ap₂, _∙_}
+use mathlib.Core.Bool.{Bool, true, false, cond, _&&_}
 use mathlib.Core.List.{List, [], _∷_, map}
-use lib.ListN.{getD, List·getD-map}
-use Rattle.counters.specs.Bank.{each, grown}
+use lib.Dec.{eqb}
+use lib.ListN.{length, getD, length-map, List·getD-map}
+use borrow.Author.Tests.{eqb-true, eqb-false}
+use Rattle.counters.specs.Bank.{bit, each, grown}
+use Rattle.counters.specs.Due.{selects}
+use Rattle.counters.specs.declared.switches.Kind.{Kind}
+use Rattle.counters.specs.declared.switches.Kind.the-variants.{Slow, External, Software, Node}
+use Rattle.counters.proofs.BitLaws.{half-bit}
+use Rattle.counters.proofs.EachLaws.{each-is}
+use Rattle.history.specs.Ledger.{Counter, eachFrom, noCounter, packed}
 
 -- a number modulo 2^32
 abbrev pub wrapped : ℕ → ℕ
@@ -16,31 +25,134 @@ wrapped n = n % 2 ^ 32
 pub wrapped-grown : (n k : ℕ) → wrapped (n + k) ≡ grown (wrapped n) k
 wrapped-grown n k = sym (mod-add-mod n (2 ^ 32) k)
 
--- what is done at each place goes through a function on the numbers
-pub map-each : (g : ℕ → ℕ) (f f′ : ℕ → ℕ → ℕ) (i : ℕ) (vs : List ℕ) → ((j v : ℕ) → g (f j v) ≡ f′ j (g v)) → map g (each f i vs) ≡ each f′ i (map g vs)
-unfolding each
-map-each g f f′ i [] h = refl
-map-each g f f′ i (v ∷ vs) h = ap₂ (λ (x : ℕ) (l : List ℕ). x ∷ l) (h i v) (map-each g f f′ (suc i) vs h)
+-- a counter's number
+abbrev pub valueOf : Counter → ℕ
+valueOf k = wrapped (k .events)
 
--- k events for the counters that f names
-pub wrapped-events : (f : ℕ → Bool) (k : ℕ) (vs : List ℕ) → map wrapped (each (λ i n. cond (f i) (n + k) n) 0 vs) ≡ each (λ i v. cond (f i) (grown v k) v) 0 (map wrapped vs)
-wrapped-events f k vs = map-each wrapped (λ i n. cond (f i) (n + k) n) (λ i v. cond (f i) (grown v k) v) 0 vs (λ j v. go (f j) v)
+-- ---- each counter in turn
+
+pub each-length : (i : ℕ) (f : ℕ → Counter → Counter) (ks : List Counter) → length (eachFrom i f ks) ≡ length ks
+unfolding eachFrom
+each-length i f [] = refl
+each-length i f (k ∷ ks) = ap suc (each-length (suc i) f ks)
+
+each-from : (i : ℕ) (f : ℕ → Counter → Counter) (ks : List Counter) (j : ℕ) → j < length ks → getD (eachFrom i f ks) j noCounter ≡ f (i + j) (getD ks j noCounter)
+unfolding eachFrom
+each-from i f [] j h = absurd (not-suc-le-zero h)
+each-from i f (k ∷ ks) zero h = ap (λ (n : ℕ). f n k) (sym (add-zero i))
+each-from i f (k ∷ ks) (suc j) h =
+    each-from (suc i) f ks j (le-of-suc-le-suc h) ∙ ap (λ (n : ℕ). f n (getD ks j noCounter)) (suc-add i j ∙ sym (add-suc i j))
+
+each-at : (f : ℕ → Counter → Counter) (ks : List Counter) (j : ℕ) → j < length ks → getD (eachFrom 0 f ks) j noCounter ≡ f j (getD ks j noCounter)
+each-at f ks j h = each-from 0 f ks j h ∙ ap (λ (n : ℕ). f n (getD ks j noCounter)) (zero-add j)
+
+-- what none of them changes stays
+pub each-same : {B : Type 0} (g : Counter → B) (i : ℕ) (f : ℕ → Counter → Counter) (ks : List Counter) → ((j : ℕ) (k : Counter) → g (f j k) ≡ g k) → map g (eachFrom i f ks) ≡ map g ks
+unfolding eachFrom
+each-same g i f [] h = refl
+each-same g i f (k ∷ ks) h = ap₂ (λ x l. x ∷ l) (h i k) (each-same g (suc i) f ks h)
+
+-- what is done to a counter under a test keeps what it doesn't change
+pub under : {B : Type 0} (g : Counter → B) (t : Bool) (x k : Counter) → g x ≡ g k → g (cond t x k) ≡ g k
+under g true x k e = e
+under g false x k e = refl
+
+-- ---- a register, bit by bit
+
+pub packed-same : (g : Counter → Bool) (i : ℕ) (f : ℕ → Counter → Counter) (ks : List Counter) → ((j : ℕ) (k : Counter) → g (f j k) ≡ g k) → packed g ks ≡ packed g (eachFrom i f ks)
+unfolding eachFrom packed
+packed-same g i f [] h = refl
+packed-same g i f (k ∷ ks) h = ap₂ (λ (b : Bool) (n : ℕ). cond b 1 0 + 2 * n) (sym (h i k)) (packed-same g (suc i) f ks h)
+
+pub packed-bit : (g : Counter → Bool) (ks : List Counter) (j : ℕ) → j < length ks → bit (packed g ks) j ≡ g (getD ks j noCounter)
+unfolding packed
+packed-bit g [] j h = absurd (not-suc-le-zero h)
+packed-bit g (k ∷ ks) zero h = go (g k) (packed g ks)
   where
-    go : (b : Bool) (v : ℕ) → wrapped (cond b (v + k) v) ≡ cond b (grown (wrapped v) k) (wrapped v)
-    go true v = wrapped-grown v k
-    go false v = refl
-
--- the counters that f names begin anew
-pub wrapped-clear : (f : ℕ → Bool) (vs : List ℕ) → map wrapped (each (λ i n. cond (f i) 0 n) 0 vs) ≡ each (λ i v. cond (f i) 0 v) 0 (map wrapped vs)
-wrapped-clear f vs = map-each wrapped (λ i n. cond (f i) 0 n) (λ i v. cond (f i) 0 v) 0 vs (λ j v. go (f j) v)
+    go : (b : Bool) (n : ℕ) → eqb ((cond b 1 0 + 2 * n) / 2 ^ 0 % 2) 1 ≡ b
+    go true n = let one : (1 + 2 * n) / 1 % 2 ≡ 1 = omega arith in ap (λ (m : ℕ). eqb m 1) one
+    go false n = let none : (0 + 2 * n) / 1 % 2 ≡ 0 = omega arith in ap (λ (m : ℕ). eqb m 1) none
+packed-bit g (k ∷ ks) (suc j) h =
+    ap (λ (m : ℕ). eqb (m % 2) 1) (half-bit (cond (g k) 1 0 + 2 * packed g ks) j ∙ ap (λ (m : ℕ). m / 2 ^ j) (go (g k) (packed g ks)))
+    ∙ packed-bit g ks j (le-of-suc-le-suc h)
   where
-    go : (b : Bool) (v : ℕ) → wrapped (cond b 0 v) ≡ cond b 0 (wrapped v)
-    go true v = refl
-    go false v = refl
+    go : (b : Bool) (n : ℕ) → (cond b 1 0 + 2 * n) / 2 ≡ n
+    go true n = omega arith
+    go false n = omega arith
 
--- one counter's number
-pub wrapped-at : (vs : List ℕ) (i : ℕ) → getD (map wrapped vs) i 0 ≡ wrapped (getD vs i 0)
-wrapped-at vs i = List·getD-map wrapped vs i 0
+-- a number with these bits, and no others, is packed so
+pub packed-is : (g : Counter → Bool) (ks : List Counter) (x : ℕ) → x < 2 ^ length ks → ((j : ℕ) → j < length ks → bit x j ≡ g (getD ks j noCounter)) → x ≡ packed g ks
+unfolding packed
+packed-is g [] x h p = omega arith
+packed-is g (k ∷ ks) x h p =
+    let two : 2 ^ suc (length ks) ≡ 2 ^ length ks * 2 = pow-suc 2 (length ks) in
+    go (g k) (p 0 (zero-lt-suc (length ks)))
+    (packed-is g ks (x / 2) (omega arith) (λ j q. ap (λ (m : ℕ). eqb (m % 2) 1) (sym (half-bit x j)) ∙ p (suc j) (suc-le-suc q)))
+  where
+    go : (b : Bool) → eqb (x / 2 ^ 0 % 2) 1 ≡ b → x / 2 ≡ packed g ks → x ≡ cond b 1 0 + 2 * packed g ks
+    go true e r = let one : x / 1 % 2 ≡ 1 = eqb-true (x / 1 % 2) 1 e in omega arith
+    go false e r = let none : x / 1 % 2 ≡ 1 → ⊥ = eqb-false (x / 1 % 2) 1 e in omega arith
+
+-- after something is done to each of n counters
+pub packed-each : (g : Counter → Bool) (f : ℕ → Counter → Counter) (ks : List Counter) (n x : ℕ) → length ks ≡ n → x < 2 ^ n → ((j : ℕ) → j < n → bit x j ≡ g (f j (getD ks j noCounter))) → x ≡ packed g (eachFrom 0 f ks)
+packed-each g f ks n x e h p =
+    let long : length (eachFrom 0 f ks) ≡ n = each-length 0 f ks ∙ e in
+    packed-is g (eachFrom 0 f ks) x (rw long h)
+    (λ j q. let q′ : j < n = rw long at q in p j q′ ∙ ap g (sym (each-at f ks j (rw e q′))))
+
+-- it has no other bits
+pub packed-lt : (g : Counter → Bool) (ks : List Counter) → packed g ks < 2 ^ length ks
+unfolding packed
+packed-lt g [] = omega arith
+packed-lt g (k ∷ ks) = go (g k) (packed-lt g ks)
+  where
+    go : (b : Bool) → packed g ks < 2 ^ length ks → cond b 1 0 + 2 * packed g ks < 2 ^ suc (length ks)
+    go true h = omega (arith, pow-suc 2 (length ks))
+    go false h = omega (arith, pow-suc 2 (length ks))
+
+-- ---- the counters' numbers
+
+pub values-each : (g : ℕ → ℕ → ℕ) (f : ℕ → Counter → Counter) (ks : List Counter) → ((j : ℕ) → j < length ks → g j (valueOf (getD ks j noCounter)) ≡ valueOf (f j (getD ks j noCounter))) → each g 0 (map valueOf ks) ≡ map valueOf (eachFrom 0 f ks)
+values-each g f ks p =
+    each-is g (map valueOf ks) (map valueOf (eachFrom 0 f ks))
+    (length-map ks valueOf ∙ sym (length-map (eachFrom 0 f ks) valueOf ∙ each-length 0 f ks))
+    (λ j q.
+    let h : j < length ks = rw length-map at q in
+    ap (g j) (List·getD-map valueOf ks j noCounter) ∙ p j h ∙ ap valueOf (sym (each-at f ks j h)) ∙ sym (List·getD-map valueOf (eachFrom 0 f ks) j noCounter))
+
+pub value-at : (ks : List Counter) (i : ℕ) → getD (map valueOf ks) i 0 ≡ valueOf (getD ks i noCounter)
+value-at ks i = List·getD-map valueOf ks i noCounter
+
+-- "00 slow clock, 01 external, 10 software, 11 node clock": the chip's kinds and the ledger's numbers
+abbrev pub kindNumber : Kind → ℕ
+kindNumber Slow = 0
+kindNumber External = 1
+kindNumber Software = 2
+kindNumber Node = 3
+
+pub selects-field : (kind : Kind) (high low : Bool) → selects kind high low ≡ eqb (cond high 2 0 + cond low 1 0) (kindNumber kind)
+selects-field Slow true true = refl
+selects-field Slow true false = refl
+selects-field Slow false true = refl
+selects-field Slow false false = refl
+selects-field External true true = refl
+selects-field External true false = refl
+selects-field External false true = refl
+selects-field External false false = refl
+selects-field Software true true = refl
+selects-field Software true false = refl
+selects-field Software false true = refl
+selects-field Software false false = refl
+selects-field Node true true = refl
+selects-field Node true false = refl
+selects-field Node false true = refl
+selects-field Node false false = refl
+
+-- n events that count under a test
+pub counted-value : (a b : Bool) (n : ℕ) (k : Counter) → cond (a && b) (grown (valueOf k) n) (valueOf k) ≡ valueOf (cond a (cond b (record { on = k .on; high = k .high; low = k .low; events = k .events + n }) k) k)
+counted-value true true n k = sym (wrapped-grown (k .events) n)
+counted-value true false n k = refl
+counted-value false b n k = refl
 
 -- the slow clock: the events among k ticks, from the ticks so far or from the phase
 pub slow-same : (ticks k : ℕ) → (ticks + k) / 10 - ticks / 10 ≡ (ticks % 10 + k) / 10

@@ -1,4 +1,5 @@
 -- The laws and the theorems of demand 3.
+pub mod Addresses
 pub mod Agrees
 pub mod CountLaws
 pub mod HeldLaws

@@ -1,43 +1,82 @@
 -- Every operation keeps the relation between ledger and record, and replies what the ledger says. Assumes nothing.
-use Prim.Native.Nat.{ℕ, zero, suc, _+_, _-_, _/_, _%_, _^_, _<_, min}
-use native.Mathlib.Nat.{mod-add-mod}
+use Prim.Native.Nat.{ℕ, zero, suc, _+_, _-_, _*_, _/_, _%_, _^_, _≤_, _<_, min}
+use native.Mathlib.Nat.{mod-add-mod, mod-lt}
 use native.Mathlib.Numerals.{add-one}
 use native.Mathlib.Omega.{arith}
 use mathlib.Core.Path.{_≡_, refl, sym, ap, ap₂, _∙_, subst}
-use mathlib.Core.Bool.{Bool, true, false, cond, _&&_}
+use mathlib.Core.Bool.{Bool, true, false, cond, not, _&&_, _||_}
 use mathlib.Core.List.{List, [], _∷_, map}
-use lib.Dec.{eqb}
-use lib.ListN.{length, take, drop, getD, replicate, length-drop}
+use lib.Bits.{and-lt, or-lt}
+use lib.Dec.{eqb, leb}
+use lib.ListN.{length, take, drop, getD, replicate, set, length-drop}
+use lib.Pow.{pow-pos}
 use lib.Seq.{drop-cons, length-take-le}
-use Rattle.samples.specs.declared.sample.Sample.{Sample}
 use borrow.Author.Tests.{eq-eqb, ne-eqb, eqb-true, eqb-false}
-use Rattle.counters.specs.Bank.{bit, copied, each, grown}
-use Rattle.counters.specs.declared.bank.Bank.{Bank}
+use Rattle.samples.specs.declared.sample.Sample.{Sample}
+use Rattle.counters.specs.Bank.{bit, copied, counting, grown}
+use Rattle.counters.specs.Bank.{each as Bank·each}
+use Rattle.counters.specs.Due.{disabling, due, enabling, selecting, selects}
+use Rattle.counters.specs.declared.switches.Kind.{Kind}
 use Rattle.counters.specs.declared.switches.Kind.the-variants.{Slow, External, Software, Node}
-use Rattle.counters.proofs.EachLaws.{each-length}
+use Rattle.counters.specs.declared.switches.Switches.{Switches}
+use Rattle.counters.proofs.BitLaws.{bit-mod, disabled-bit, enabled-bit, high-bit, low-bit}
 use Rattle.queue.specs.Queue.{advanced, busy, emptyQueue, nextWord, sendMany, sendQueue, sendWords}
 use Rattle.queue.specs.declared.queue.Queue.{Queue}
-use Rattle.chip.specs.Chip.{afterTicks, done, externalEvents, nodeTicks, read, readAt, readCounter, replied, send, sendInto, sendNow, timestampTicks, withBank, withControl, withQueue, write, writeAt}
-use Rattle.chip.specs.Control.{csrOf, waited}
+use Rattle.chip.specs.Chip.{afterTicks, done, externalEvents, fresh, nodeTicks, read, readAt, readCounter, replied, send, sendInto, sendNow, timestampTicks, withBank, withControl, withQueue, withStamp, write, writeAt}
+use Rattle.chip.specs.Control.{csrOf, one, pair, waited}
+use Rattle.chip.specs.Control.{configured as Control·configured}
 use Rattle.chip.specs.Operation.{Operation, opReset, opWrite, opRead, opTicks, opNodes, opEvents, opSend, opFill, step}
-use Rattle.chip.specs.Place.{placeOf}
-use Rattle.chip.specs.Reply.{replyNumber}
-use Rattle.chip.specs.declared.chip.Answer.{Answer}
+use Rattle.chip.specs.Place.{placeOf, registerOf}
+use Rattle.chip.specs.Reply.{Told}
 use Rattle.chip.specs.declared.chip.Chip.{Chip}
 use Rattle.chip.specs.declared.place.Place.{Place}
-use Rattle.chip.specs.declared.place.Place.the-variants.{Beyond, Nowhere, Reset, Csr, Timestamp, Filter, Waits, Overruns, Mux, Clear, Enable, Disable, Source, Counter, Trace, Resource}
+use Rattle.chip.specs.declared.place.Place.the-variants.{Beyond, Nowhere, Csr, Source, Trigger}
+use Rattle.chip.specs.declared.place.Place.the-variants.{Counter as Place·Counter}
 use Rattle.chip.specs.declared.reply.Reply.the-variants.{Busy, NoWord, Wait}
-use Rattle.history.specs.Ledger.{Ledger, Told, dueTo, happened, held, left, readIn, resetAt, sentMore, slowIn, tells, toldOf, waitedOne, withErrors, withEvents, withStream, withTicks, written}
-use Rattle.history.specs.Stream.{anyHeld, totalOf, wordsOfAll}
-use Rattle.history.proofs.Agrees.{Agrees, Good, Kept, chipFor, controlOf, kept-guarded}
-use Rattle.history.proofs.CountLaws.{phase-same, slow-same, wrapped, wrapped-at, wrapped-clear, wrapped-events}
+use Rattle.history.specs.Ledger.{Counter, Entry, Ledger, byRange, cleared, configured, counted, counterRead, csrIn, each, eachFrom, enabled, fieldOf, happened, held, isSet, left, noCounter, packed, readIn, readLow, resetAt, selected, sentMore, slowIn, tells, toldOf, turned, vacant, waitedOne, withCounters, withErrors, withSettings, withStream, withTicks, written, writtenLow}
+use Rattle.history.specs.Stream.{anyHeld, isFull, totalOf, wordsOfAll}
+use Rattle.history.proofs.Addresses.{by-place, range-beyond, range-counter, range-source, range-trigger, range-vacant}
+use Rattle.history.proofs.Agrees.{Agrees, Good, Kept, chipFor, controlOf, kept-guarded, switchesOf}
+use Rattle.history.proofs.CountLaws.{counted-value, each-length, each-same, kindNumber, packed-bit, packed-each, packed-lt, packed-same, phase-same, selects-field, slow-same, under, value-at, valueOf, values-each}
 use Rattle.history.proofs.HeldLaws.{Sixteen, words-total}
 use Rattle.history.proofs.HoldsLaws.{Holds, holds-advanced, holds-busy, holds-copied, holds-empty, holds-full, holds-none, holds-some, next-is}
 use Rattle.history.proofs.Triggers.{told, trigger-kept}
 
+-- ---- settings
+
+-- a pair of bits and the number that it is
+pair-turned : (n even odd : ℕ) → even ≡ n % 4 % 2 → odd ≡ n % 4 / 2 → (b : Bool) → pair (eqb even 1) (eqb odd 1) b ≡ turned (n % 4) b
+pair-turned n even odd p q b = ap₂ (λ (x y : ℕ). pair (eqb x 1) (eqb y 1) b) p q ∙ go (n % 4) (mod-lt n (pow-pos 2))
+  where
+    go : (m : ℕ) → m < 4 → pair (eqb (m % 2) 1) (eqb (m / 2) 1) b ≡ turned m b
+    go zero h = refl
+    go (suc zero) h = refl
+    go (suc (suc zero)) h = refl
+    go (suc (suc (suc zero))) h = refl
+    go (suc (suc (suc (suc m)))) h = absurd (omega arith)
+
+-- the CSR's bits as numbers
+csr-same : (full shadows : Bool) (l : Ledger) → csrOf full shadows (controlOf l) ≡ (cond (l .settings .sampling) 1 0 + cond (l .settings .writewait) 4 0 + cond (l .settings .readwait) 16 0) + (cond full 64 0 + cond shadows 128 0) + (cond (l .errors .flagfull) 256 0 + cond (l .errors .flagbusy) 512 0)
+csr-same full shadows l =
+    let s = l .settings in
+    let e = l .errors in
+    λ i. (bit-0 (s .sampling) i + flag 4 (s .writewait) i + flag 16 (s .readwait) i) + (flag 64 full i + flag 128 shadows i) + (flag 256 (e .flagfull) i + flag 512 (e .flagbusy) i)
+  where
+    bit-0 : (b : Bool) → one b ≡ cond b 1 0
+    bit-0 true = refl
+    bit-0 false = refl
+
+    flag : (n : ℕ) (b : Bool) → n * one b ≡ cond b n 0
+    flag n true = omega arith
+    flag n false = omega arith
+
 -- a reset record, whatever was before
+pub reset-record : (clock : ℕ) → withStamp (clock % 2 ^ 56) fresh ≡ chipFor (resetAt clock) emptyQueue (replicate 16 0)
+unfolding packed
+reset-record clock = refl
+
 pub reset-good : (clock : ℕ) → Good (resetAt clock) emptyQueue (replicate 16 0)
-reset-good clock = record { holds = holds-empty (replicate 16 0); sixteen = tt; events = refl }
+reset-good clock = record { holds = holds-empty (replicate 16 0); sixteen = tt; counters = refl }
 
 -- single sends, up to a number of them: the words are the next ones, and the queue is what is left
 pub many : (taken : List Sample) → Sixteen taken → (sh : List ℕ) (room n : ℕ) (p : Queue) → Holds taken n sh p → (sendWords room sh p ≡ take (min room (totalOf taken - n)) (drop n (wordsOfAll taken))) × Holds taken (n + min room (totalOf taken - n)) sh (sendQueue room p)
@@ -67,11 +106,11 @@ many taken sixteen sh (suc room) n p h = go (eqb (p .held) 0) refl (λ k. many t
 
 module _ (l : Ledger) (q : Queue) (sh : List ℕ) (g : Good l q sh) where
   -- the same record
-  same : (n v : ℕ) (a : Answer) → a .chip ≡ chipFor l q sh → replyNumber (a .reply) ≡ n → a .value ≡ v → Kept (tells n v l) a
-  same n v a e p r = record { agrees = record { queue = q; shadows = sh; is = e; good = g }; number = p; value = r }
+  same : (n v : ℕ) (t : Told) → t .chip ≡ chipFor l q sh → t .number ≡ n → t .value ≡ v → Kept (tells n v l) t
+  same n v t e p r = record { agrees = record { queue = q; shadows = sh; is = e; good = g }; number = p; value = r }
 
-  -- another part of the ledger that neither the stream nor the events are in
-  other : (l′ : Ledger) (c : Chip) → c ≡ chipFor l′ q sh → l′ .taken ≡ l .taken → l′ .sent ≡ l .sent → l′ .events ≡ l .events → Kept (tells 0 0 l′) (done 0 c)
+  -- another part of the ledger that neither the stream nor the counters are in
+  other : (l′ : Ledger) (c : Chip) → c ≡ chipFor l′ q sh → l′ .taken ≡ l .taken → l′ .sent ≡ l .sent → l′ .counters ≡ l .counters → Kept (tells 0 0 l′) (done 0 c)
   other l′ c e t s v =
       record {
         agrees =
@@ -83,64 +122,255 @@ module _ (l : Ledger) (q : Queue) (sh : List ℕ) (g : Good l q sh) where
                   record {
                     holds = subst (λ (ss : _). Holds ss (l′ .sent) sh q) (sym t) (subst (λ (n : ℕ). Holds (l .taken) n sh q) (sym s) (g .holds));
                     sixteen = subst Sixteen (sym t) (g .sixteen);
-                    events = ap length v ∙ g .events;
+                    counters = ap length v ∙ g .counters;
                   };
             };
         number = refl;
         value = refl;
       }
 
-  -- other events
-  other-events : (es : List ℕ) (b : Bank) → length es ≡ 16 → b ≡ record { values = map wrapped es; shadows = sh } → Kept (tells 0 0 (withEvents es l)) (done 0 (withBank b (chipFor l q sh)))
-  other-events es b n e =
+  -- 1
+  configured-kept : (bits : ℕ) → Kept (tells 0 0 (withSettings (configured bits (l .settings)) l)) (done 0 (withControl (Control·configured bits (controlOf l)) (chipFor l q sh)))
+  configured-kept bits =
+      let s = l .settings in
+      other (withSettings (configured bits s) l) _
+      (λ i.
+      chipFor (withSettings (record {
+        sampling = pair-turned bits (bits / 1 % 2) (bits / 2 % 2) (omega arith) (omega arith) (s .sampling) i;
+        writewait = pair-turned (bits / 4) (bits / 4 % 2) (bits / 8 % 2) (omega arith) (omega arith) (s .writewait) i;
+        readwait = pair-turned (bits / 16) (bits / 16 % 2) (bits / 32 % 2) (omega arith) (omega arith) (s .readwait) i;
+        filter = s .filter;
+      }) l) q sh)
+      refl refl refl
+
+  -- ---- something is done to each counter
+
+  -- the record with other counters and switches
+  withCounted : List ℕ → Switches → Chip
+  withCounted values s =
+      record { stamp = l .clock % 2 ^ 56; queue = q; bank = record { values = values; shadows = sh }; sources = l .sources; control = controlOf l; switches = s }
+
+  each-kept : (f : ℕ → Counter → Counter) (values : List ℕ) (s : Switches) → values ≡ map valueOf (eachFrom 0 f (l .counters)) → s ≡ switchesOf (each f l) → Kept (tells 0 0 (each f l)) (done 0 (withCounted values s))
+  unfolding withCounted
+  each-kept f values s v e =
       record {
-        agrees = record { queue = q; shadows = sh; is = ap (λ (x : Bank). withBank x (chipFor l q sh)) e; good = record { holds = g .holds; sixteen = g .sixteen; events = n } };
+        agrees =
+            record {
+              queue = q;
+              shadows = sh;
+              is = ap₂ withCounted v e;
+              good = record { holds = g .holds; sixteen = g .sixteen; counters = each-length 0 f (l .counters) ∙ g .counters };
+            };
         number = refl;
         value = refl;
       }
 
-  happened-kept : (f : ℕ → Bool) (k : ℕ) → Kept (tells 0 0 (happened f k l)) (done 0 (withBank (record { values = each (λ i v. cond (f i) (grown v k) v) 0 (map wrapped (l .events)); shadows = sh }) (chipFor l q sh)))
-  happened-kept f k =
-      other-events (each (λ i n. cond (f i) (n + k) n) 0 (l .events)) _ (each-length (λ i n. cond (f i) (n + k) n) 0 (l .events) ∙ g .events)
-      (λ j. record { values = sym (wrapped-events f k (l .events)) j; shadows = sh })
+  -- counter j's bit of a register
+  bit-of : (p : Counter → Bool) (j : ℕ) → j < 16 → bit (packed p (l .counters)) j ≡ p (getD (l .counters) j noCounter)
+  bit-of p j h = packed-bit p (l .counters) j (rw (g .counters) h)
+
+  register-of : (p : Counter → Bool) (f : ℕ → Counter → Counter) (x : ℕ) → x < 2 ^ 16 → ((j : ℕ) → j < 16 → bit x j ≡ p (f j (getD (l .counters) j noCounter))) → x ≡ packed p (eachFrom 0 f (l .counters))
+  register-of p f x h e = packed-each p f (l .counters) 16 x (g .counters) h e
+
+  few : (p : Counter → Bool) → packed p (l .counters) < 2 ^ 16
+  few p = subst (λ (n : ℕ). packed p (l .counters) < 2 ^ n) (g .counters) (packed-lt p (l .counters))
+
+  -- 11 and 12: the counters of the set bits become b
+  switched-kept : (b : Bool) (bits x : ℕ) → x < 2 ^ 16 → ((j : ℕ) → j < 16 → bit x j ≡ cond (isSet bits j) b (bit (packed (λ k. k .on) (l .counters)) j)) → Kept (tells 0 0 (each (enabled b bits) l)) (done 0 (withCounted (map valueOf (l .counters)) (record { enabled = x; low = packed (λ k. k .low) (l .counters); high = packed (λ k. k .high) (l .counters); phase = l .ticks % 10 })))
+  switched-kept b bits x h e =
+      each-kept f _ _ (sym (each-same valueOf 0 f (l .counters) (λ j k. under valueOf (isSet bits j) (next k) k refl)))
+      (λ i. record {
+        enabled = register-of (λ k. k .on) f x h (λ j p. e j p ∙ ap (cond (isSet bits j) b) (bit-of (λ k. k .on) j p) ∙ on (isSet bits j) (getD (l .counters) j noCounter)) i;
+        low = packed-same (λ k. k .low) 0 f (l .counters) (λ j k. under (λ m. m .low) (isSet bits j) (next k) k refl) i;
+        high = packed-same (λ k. k .high) 0 f (l .counters) (λ j k. under (λ m. m .high) (isSet bits j) (next k) k refl) i;
+        phase = l .ticks % 10;
+      })
+    where
+      f : ℕ → Counter → Counter
+      f = enabled b bits
+
+      next : Counter → Counter
+      next k = record { on = b; high = k .high; low = k .low; events = k .events }
+
+      on : (t : Bool) (k : Counter) → cond t b (k .on) ≡ cond t (next k) k .on
+      on true k = refl
+      on false k = refl
+
+  enable-kept : (bits : ℕ) → Kept (tells 0 0 (each (enabled true bits) l)) (done 0 (withCounted (map valueOf (l .counters)) (enabling bits (switchesOf l))))
+  enable-kept bits =
+      switched-kept true bits _ (or-lt 16 _ _ (few (λ k. k .on)) (mod-lt bits (pow-pos 16)))
+      (λ j h. enabled-bit bits (switchesOf l) j h ∙ go (bit (packed (λ k. k .on) (l .counters)) j) (isSet bits j))
+    where
+      go : (x t : Bool) → (x || t) ≡ cond t true x
+      go true true = refl
+      go true false = refl
+      go false true = refl
+      go false false = refl
+
+  disable-kept : (bits : ℕ) → Kept (tells 0 0 (each (enabled false bits) l)) (done 0 (withCounted (map valueOf (l .counters)) (disabling bits (switchesOf l))))
+  disable-kept bits =
+      switched-kept false bits _ (and-lt 16 _ _ (few (λ k. k .on)) (omega arith))
+      (λ j h. disabled-bit bits (switchesOf l) j h ∙ go (bit (packed (λ k. k .on) (l .counters)) j) (isSet bits j))
+    where
+      go : (x t : Bool) → (x && not t) ≡ cond t false x
+      go true true = refl
+      go true false = refl
+      go false true = refl
+      go false false = refl
+
+  -- 8
+  select-kept : (bits : ℕ) → Kept (tells 0 0 (each (selected bits) l)) (done 0 (withCounted (map valueOf (l .counters)) (selecting bits (switchesOf l))))
+  select-kept bits =
+      each-kept (selected bits) _ _ (sym (each-same valueOf 0 (selected bits) (l .counters) (λ j k. refl)))
+      (λ i. record {
+        enabled = packed-same (λ k. k .on) 0 (selected bits) (l .counters) (λ j k. refl) i;
+        low = register-of (λ k. k .low) (selected bits) _ (mod-lt bits (pow-pos 16)) (λ j h. low-bit bits (switchesOf l) j h) i;
+        high = register-of (λ k. k .high) (selected bits) _ (mod-lt (bits / 2 ^ 32) (pow-pos 16)) (λ j h. high-bit bits (switchesOf l) j h) i;
+        phase = l .ticks % 10;
+      })
+
+  -- what changes events alone
+  events-kept : (f : ℕ → Counter → Counter) (values : List ℕ) → ((j : ℕ) (k : Counter) → (f j k .on ≡ k .on) × ((f j k .high ≡ k .high) × (f j k .low ≡ k .low))) → values ≡ map valueOf (eachFrom 0 f (l .counters)) → Kept (tells 0 0 (each f l)) (done 0 (withCounted values (switchesOf l)))
+  events-kept f values e v =
+      each-kept f values (switchesOf l) v
+      (λ i. record {
+        enabled = packed-same (λ k. k .on) 0 f (l .counters) (λ j k. e j k .0) i;
+        low = packed-same (λ k. k .low) 0 f (l .counters) (λ j k. e j k .1 .1) i;
+        high = packed-same (λ k. k .high) 0 f (l .counters) (λ j k. e j k .1 .0) i;
+        phase = l .ticks % 10;
+      })
+
+  -- 10
+  clear-kept : (bits : ℕ) → Kept (tells 0 0 (each (cleared bits) l)) (done 0 (withCounted (Bank·each (λ i v. cond (bit (bits % 2 ^ 16) i) 0 v) 0 (map valueOf (l .counters))) (switchesOf l)))
+  clear-kept bits =
+      events-kept (cleared bits) _ (λ j k. go (isSet bits j) k)
+      (values-each (λ i v. cond (bit (bits % 2 ^ 16) i) 0 v) (cleared bits) (l .counters)
+      (λ j h. ap (λ (b : Bool). cond b 0 (valueOf (getD (l .counters) j noCounter))) (bit-mod 16 bits j (rw (g .counters) at h)) ∙ value (isSet bits j) (getD (l .counters) j noCounter)))
+    where
+      next : Bool → Counter → Counter
+      next t k = cond t (record { on = k .on; high = k .high; low = k .low; events = 0 }) k
+
+      go : (t : Bool) (k : Counter) → (next t k .on ≡ k .on) × ((next t k .high ≡ k .high) × (next t k .low ≡ k .low))
+      go true k = (refl, (refl, refl))
+      go false k = (refl, (refl, refl))
+
+      value : (t : Bool) (k : Counter) → cond t 0 (valueOf k) ≡ valueOf (next t k)
+      value true k = refl
+      value false k = refl
+
+  -- ---- events: n of a kind, for the counters that a test names
+
+  -- "An event counts if the counter is enabled and its field selects that kind"
+  due-same : (kind : Kind) (j : ℕ) → j < 16 → due kind (switchesOf l) j ≡ (getD (l .counters) j noCounter .on && eqb (fieldOf (getD (l .counters) j noCounter)) (kindNumber kind))
+  due-same kind j h =
+      let k : Counter = getD (l .counters) j noCounter in
+      (λ i. bit-of (λ m. m .on) j h i && selects kind (bit-of (λ m. m .high) j h i) (bit-of (λ m. m .low) j h i))
+      ∙ ap (λ (b : Bool). k .on && b) (selects-field kind (k .high) (k .low))
+
+  happenedBy : Kind → (ℕ → Bool) → ℕ → ℕ → Counter → Counter
+  happenedBy kind t n j k = cond (t j) (counted (kindNumber kind) n k) k
+
+  -- their counters' numbers
+  happened-values : (kind : Kind) (t : ℕ → Bool) (n : ℕ) → Bank·each (λ j v. cond (t j && due kind (switchesOf l) j) (grown v n) v) 0 (map valueOf (l .counters)) ≡ map valueOf (eachFrom 0 (happenedBy kind t n) (l .counters))
+  unfolding happenedBy
+  happened-values kind t n =
+      values-each (λ j v. cond (t j && due kind (switchesOf l) j) (grown v n) v) (happenedBy kind t n) (l .counters)
+      (λ j h.
+      let k : Counter = getD (l .counters) j noCounter in
+      ap (λ (b : Bool). cond (t j && b) (grown (valueOf k) n) (valueOf k)) (due-same kind j (rw (g .counters) at h))
+      ∙ counted-value (t j) (k .on && eqb (fieldOf k) (kindNumber kind)) n k)
+
+  -- and nothing else of them
+  happened-else : (kind : Kind) (t : ℕ → Bool) (n j : ℕ) (k : Counter) → (happenedBy kind t n j k .on ≡ k .on) × ((happenedBy kind t n j k .high ≡ k .high) × (happenedBy kind t n j k .low ≡ k .low))
+  unfolding happenedBy
+  happened-else kind t n j k = go (t j) (k .on && eqb (fieldOf k) (kindNumber kind))
+    where
+      next : Bool → Bool → Counter
+      next a b = cond a (cond b (record { on = k .on; high = k .high; low = k .low; events = k .events + n }) k) k
+
+      go : (a b : Bool) → (next a b .on ≡ k .on) × ((next a b .high ≡ k .high) × (next a b .low ≡ k .low))
+      go true true = (refl, (refl, refl))
+      go true false = (refl, (refl, refl))
+      go false b = (refl, (refl, refl))
+
+  happened-kept : (kind : Kind) (t : ℕ → Bool) (n : ℕ) → Kept (tells 0 0 (happened (kindNumber kind) t n l)) (done 0 (withCounted (Bank·each (λ j v. cond (t j && due kind (switchesOf l) j) (grown v n) v) 0 (map valueOf (l .counters))) (switchesOf l)))
+  unfolding happenedBy
+  happened-kept kind t n = events-kept (happenedBy kind t n) _ (happened-else kind t n) (happened-values kind t n)
 
   -- ---- writes
 
-  write-kept : (p : Place) (word lines : ℕ) → Kept (written p word lines l) (writeAt p word lines (chipFor l q sh))
-  unfolding written writeAt
-  write-kept Beyond word lines = same 1 0 _ refl refl refl
-  write-kept Nowhere word lines = same 2 0 _ refl refl refl
-  write-kept Reset word lines = record { agrees = record { queue = emptyQueue; shadows = replicate 16 0; is = refl; good = reset-good (l .clock) }; number = refl; value = refl }
-  write-kept Csr word lines = other _ _ refl refl refl refl
-  write-kept Timestamp word lines = same 3 0 _ refl refl refl
-  write-kept Filter word lines = other _ _ refl refl refl refl
-  write-kept Waits word lines = other _ _ refl refl refl refl
-  write-kept Overruns word lines = other _ _ refl refl refl refl
-  write-kept Mux word lines = other _ _ refl refl refl refl
-  write-kept Clear word lines =
-      other-events _ _ (each-length (λ i n. cond (bit (word % 2 ^ 16) i) 0 n) 0 (l .events) ∙ g .events)
-      (λ k. record { values = sym (wrapped-clear (bit (word % 2 ^ 16)) (l .events)) k; shadows = sh })
-  write-kept Enable word lines = other _ _ refl refl refl refl
-  write-kept Disable word lines = other _ _ refl refl refl refl
-  write-kept (Source i) word lines = other _ _ refl refl refl refl
-  write-kept (Counter i) word lines = happened-kept (λ j. eqb j i && dueTo Software (l .select) j) 1
-  write-kept (Trace level) word lines = trigger-kept l q sh g false level word lines
-  write-kept (Resource level) word lines = trigger-kept l q sh g true level word lines
+  write-kept : (bits lines a : ℕ) → Kept (written a bits lines l) (writeAt (placeOf a) bits lines (chipFor l q sh))
+  unfolding written writeAt byRange vacant writtenLow registerOf withCounted
+  write-kept bits lines =
+      by-place (λ a p. Kept (written a bits lines l) (writeAt p bits lines (chipFor l q sh))) (
+        same 2 0 _ refl refl refl,
+        (
+          same 2 0 _ refl refl refl,
+          (
+            same 2 0 _ refl refl refl,
+            (
+              disable-kept bits,
+              (
+                enable-kept bits,
+                (
+                  clear-kept bits,
+                  (
+                    same 2 0 _ refl refl refl,
+                    (
+                      select-kept bits,
+                      (
+                        same 2 0 _ refl refl refl,
+                        (
+                          other _ _ refl refl refl refl,
+                          (
+                            other _ _ refl refl refl refl,
+                            (
+                              other _ _ refl refl refl refl,
+                              (
+                                same 2 0 _ refl refl refl,
+                                (
+                                  same 3 0 _ refl refl refl,
+                                  (
+                                    configured-kept bits,
+                                    (
+                                      record { agrees = record { queue = emptyQueue; shadows = replicate 16 0; is = reset-record (l .clock); good = reset-good (l .clock) }; number = refl; value = refl },
+                                      tt,
+                                    ),
+                                  ),
+                                ),
+                              ),
+                            ),
+                          ),
+                        ),
+                      ),
+                    ),
+                  ),
+                ),
+              ),
+            ),
+          ),
+        ),
+      )
+      (λ a p h. subst (λ (e : Entry). Kept e (writeAt (Source (a - 16)) bits lines (chipFor l q sh))) (sym (range-source a l _ _ _ _ p h)) (other _ _ refl refl refl refl))
+      (λ a p h. subst (λ (e : Entry). Kept e (writeAt (Place·Counter (a - 32)) bits lines (chipFor l q sh))) (sym (range-counter a l _ _ _ _ p h)) (happened-kept Software (λ i. eqb i (a - 32)) 1))
+      (λ a p h. subst (λ (e : Entry). Kept e (writeAt (Trigger (leb 112 a) (a % 16)) bits lines (chipFor l q sh))) (sym (range-trigger a l _ _ _ _ p h)) (trigger-kept l q sh g (leb 112 a) (a % 16) bits lines))
+      (λ a p v. subst (λ (e : Entry). Kept e (writeAt Nowhere bits lines (chipFor l q sh))) (sym (range-vacant a l _ _ _ _ p v)) (same 2 0 _ refl refl refl))
+      (λ a p. subst (λ (e : Entry). Kept e (writeAt Beyond bits lines (chipFor l q sh))) (sym (range-beyond a l _ _ _ _ p)) (same 1 0 _ refl refl refl))
 
   -- ---- reads
 
-  counterAnswer : ℕ → Bool → Bool → Answer
-  counterAnswer i b w =
-      cond b
-      (cond w (replied Wait (withControl (waited (controlOf l)) (chipFor l q sh))) (record { chip = chipFor l q sh; value = 2 ^ 63; reply = Busy }))
-      (done (getD (map wrapped (l .events)) i 0) (withBank (copied (record { values = map wrapped (l .events); shadows = sh })) (chipFor l q sh)))
-
   counterTold : ℕ → Bool → Bool → Told
   counterTold i b w =
-      cond b (cond w (tells 10 0 (withErrors (waitedOne (l .errors)) l)) (tells 11 (2 ^ 63) l)) (tells 0 (getD (l .events) i 0 % 2 ^ 32) l)
+      cond b
+      (cond w (replied Wait (withControl (waited (controlOf l)) (chipFor l q sh))) (replied Busy (chipFor l q sh)))
+      (done (getD (map valueOf (l .counters)) i 0) (withBank (copied (record { values = map valueOf (l .counters); shadows = sh })) (chipFor l q sh)))
 
-  counter-by : (i : ℕ) (b w : Bool) → busy q ≡ b → Kept (counterTold i b w) (counterAnswer i b w)
-  unfolding counterAnswer counterTold
+  counterEntry : ℕ → Bool → Bool → Entry
+  counterEntry i b w =
+      cond b (cond w (tells 10 0 (withErrors (waitedOne (l .errors)) l)) (tells 11 (2 ^ 63) l)) (tells 0 (getD (l .counters) i noCounter .events % 2 ^ 32) l)
+
+  counter-by : (i : ℕ) (b w : Bool) → busy q ≡ b → Kept (counterEntry i b w) (counterTold i b w)
+  unfolding counterEntry counterTold
   counter-by i true true e = told l q sh g
   counter-by i true false e = same 11 (2 ^ 63) _ refl refl refl
   counter-by i false w e =
@@ -148,50 +378,95 @@ module _ (l : Ledger) (q : Queue) (sh : List ℕ) (g : Good l q sh) where
         agrees =
             record {
               queue = q;
-              shadows = map wrapped (l .events);
+              shadows = map valueOf (l .counters);
               is = refl;
-              good = record { holds = holds-copied (l .taken) (l .sent) sh q (g .holds) (map wrapped (l .events)) e; sixteen = g .sixteen; events = g .events };
+              good = record { holds = holds-copied (l .taken) (l .sent) sh q (g .holds) (map valueOf (l .counters)) e; sixteen = g .sixteen; counters = g .counters };
             };
         number = refl;
-        value = wrapped-at (l .events) i;
+        value = value-at (l .counters) i;
       }
 
-  counter-kept : (i : ℕ) → Kept (counterTold i (anyHeld (held l)) (l .settings .readwait)) (readCounter i (chipFor l q sh))
-  unfolding readCounter counterAnswer
+  counter-kept : (i : ℕ) → Kept (counterRead i l) (readCounter i (chipFor l q sh))
+  unfolding readCounter counterEntry counterTold
   counter-kept i =
       let e : busy q ≡ anyHeld (held l) = holds-busy (l .taken) (l .sent) sh q (g .holds) in
-      subst (Kept (counterTold i (anyHeld (held l)) (l .settings .readwait))) (λ k. counterAnswer i (sym e k) (l .settings .readwait))
+      subst (Kept (counterRead i l)) (λ k. counterTold i (sym e k) (l .settings .readwait))
       (counter-by i (anyHeld (held l)) (l .settings .readwait) e)
 
-  read-kept : (p : Place) → Kept (readIn p l) (readAt p (chipFor l q sh))
-  unfolding readIn readAt counterTold
-  read-kept Beyond = same 1 0 _ refl refl refl
-  read-kept Nowhere = same 2 0 _ refl refl refl
-  read-kept Reset = same 3 0 _ refl refl refl
-  read-kept Csr =
+  csr-kept : Kept (tells 0 (csrIn l) l) (readAt Csr (chipFor l q sh))
+  unfolding readAt
+  csr-kept =
       same 0 _ _ refl refl
-      (ap₂ (λ (a b : Bool). csrOf a b (controlOf l)) (holds-full (l .taken) (l .sent) sh q (g .holds)) (holds-busy (l .taken) (l .sent) sh q (g .holds)))
-  read-kept Timestamp = same 0 _ _ refl refl refl
-  read-kept Filter = same 0 _ _ refl refl refl
-  read-kept Waits = same 0 _ _ refl refl refl
-  read-kept Overruns = same 0 _ _ refl refl refl
-  read-kept Mux = same 0 _ _ refl refl refl
-  read-kept Clear = same 3 0 _ refl refl refl
-  read-kept Enable = same 0 _ _ refl refl refl
-  read-kept Disable = same 3 0 _ refl refl refl
-  read-kept (Source i) = same 0 _ _ refl refl refl
-  read-kept (Counter i) = counter-kept i
-  read-kept (Trace level) = same 3 0 _ refl refl refl
-  read-kept (Resource level) = same 3 0 _ refl refl refl
+      (ap₂ (λ (a b : Bool). csrOf a b (controlOf l)) (holds-full (l .taken) (l .sent) sh q (g .holds)) (holds-busy (l .taken) (l .sent) sh q (g .holds))
+      ∙ csr-same (isFull (held l)) (anyHeld (held l)) l)
 
-  -- ---- ticks and events
+  read-kept : (a : ℕ) → Kept (readIn a l) (readAt (placeOf a) (chipFor l q sh))
+  unfolding readIn readAt byRange vacant readLow registerOf
+  read-kept =
+      by-place (λ a p. Kept (readIn a l) (readAt p (chipFor l q sh))) (
+        same 2 0 _ refl refl refl,
+        (
+          same 2 0 _ refl refl refl,
+          (
+            same 2 0 _ refl refl refl,
+            (
+              same 3 0 _ refl refl refl,
+              (
+                same 0 _ _ refl refl refl,
+                (
+                  same 3 0 _ refl refl refl,
+                  (
+                    same 2 0 _ refl refl refl,
+                    (
+                      same 0 _ _ refl refl refl,
+                      (
+                        same 2 0 _ refl refl refl,
+                        (
+                          same 0 _ _ refl refl refl,
+                          (
+                            same 0 _ _ refl refl refl,
+                            (
+                              same 0 _ _ refl refl refl,
+                              (
+                                same 2 0 _ refl refl refl,
+                                (
+                                  same 0 _ _ refl refl refl,
+                                  (
+                                    csr-kept,
+                                    (
+                                      same 3 0 _ refl refl refl,
+                                      tt,
+                                    ),
+                                  ),
+                                ),
+                              ),
+                            ),
+                          ),
+                        ),
+                      ),
+                    ),
+                  ),
+                ),
+              ),
+            ),
+          ),
+        ),
+      )
+      (λ a p h. subst (λ (e : Entry). Kept e (readAt (Source (a - 16)) (chipFor l q sh))) (sym (range-source a l _ _ _ _ p h)) (same 0 _ _ refl refl refl))
+      (λ a p h. subst (λ (e : Entry). Kept e (readAt (Place·Counter (a - 32)) (chipFor l q sh))) (sym (range-counter a l _ _ _ _ p h)) (counter-kept (a - 32)))
+      (λ a p h. subst (λ (e : Entry). Kept e (readAt (Trigger (leb 112 a) (a % 16)) (chipFor l q sh))) (sym (range-trigger a l _ _ _ _ p h)) (same 3 0 _ refl refl refl))
+      (λ a p v. subst (λ (e : Entry). Kept e (readAt Nowhere (chipFor l q sh))) (sym (range-vacant a l _ _ _ _ p v)) (same 2 0 _ refl refl refl))
+      (λ a p. subst (λ (e : Entry). Kept e (readAt Beyond (chipFor l q sh))) (sym (range-beyond a l _ _ _ _ p)) (same 1 0 _ refl refl refl))
 
-  ticks-kept : (k : ℕ) → Kept (tells 0 0 (withTicks k (happened (dueTo Slow (l .select)) (slowIn (l .ticks) k) l))) (done 0 (afterTicks k (chipFor l q sh)))
+  -- ---- ticks
+
+  ticks-kept : (k : ℕ) → Kept (tells 0 0 (withTicks k (happened (kindNumber Slow) (λ i. true) (slowIn (l .ticks) k) l))) (done 0 (afterTicks k (chipFor l q sh)))
+  unfolding happenedBy
   ticks-kept k =
-      let f : ℕ → Bool = dueTo Slow (l .select) in
       let n : ℕ = slowIn (l .ticks) k in
-      let values : each (λ i v. cond (f i) (grown v ((l .ticks % 10 + k) / 10)) v) 0 (map wrapped (l .events)) ≡ map wrapped (each (λ i m. cond (f i) (m + n) m) 0 (l .events)) =
-      ap (λ (m : ℕ). each (λ i v. cond (f i) (grown v m) v) 0 (map wrapped (l .events))) (sym (slow-same (l .ticks) k)) ∙ sym (wrapped-events f n (l .events)) in
+      let f : ℕ → Counter → Counter = happenedBy Slow (λ i. true) n in
+      let values : Bank·each (λ j v. cond (due Slow (switchesOf l) j) (grown v ((l .ticks % 10 + k) / 10)) v) 0 (map valueOf (l .counters)) ≡ map valueOf (eachFrom 0 f (l .counters)) =
+      ap (λ (m : ℕ). Bank·each (λ j v. cond (due Slow (switchesOf l) j) (grown v m) v) 0 (map valueOf (l .counters))) (sym (slow-same (l .ticks) k)) ∙ happened-values Slow (λ i. true) n in
       record {
         agrees =
             record {
@@ -205,9 +480,15 @@ module _ (l : Ledger) (q : Queue) (sh : List ℕ) (g : Good l q sh) where
                     bank = record { values = values j; shadows = sh };
                     sources = l .sources;
                     control = controlOf l;
-                    switches = record { enabled = l .select .enabled; low = l .select .low; high = l .select .high; phase = phase-same (l .ticks) k j };
+                    switches =
+                        record {
+                          enabled = packed-same (λ m. m .on) 0 f (l .counters) (λ i m. happened-else Slow (λ x. true) n i m .0) j;
+                          low = packed-same (λ m. m .low) 0 f (l .counters) (λ i m. happened-else Slow (λ x. true) n i m .1 .1) j;
+                          high = packed-same (λ m. m .high) 0 f (l .counters) (λ i m. happened-else Slow (λ x. true) n i m .1 .0) j;
+                          phase = phase-same (l .ticks) k j;
+                        };
                   };
-              good = record { holds = g .holds; sixteen = g .sixteen; events = each-length (λ i m. cond (f i) (m + n) m) 0 (l .events) ∙ g .events };
+              good = record { holds = g .holds; sixteen = g .sixteen; counters = each-length 0 f (l .counters) ∙ g .counters };
             };
         number = refl;
         value = refl;
@@ -216,27 +497,27 @@ module _ (l : Ledger) (q : Queue) (sh : List ℕ) (g : Good l q sh) where
   -- ---- sends
 
   -- another queue that holds what is left after more words
-  sent-kept : (m v : ℕ) (q′ : Queue) (a : Answer) → Holds (l .taken) (l .sent + m) sh q′ → a .chip ≡ withQueue q′ (chipFor l q sh) → replyNumber (a .reply) ≡ 0 → a .value ≡ v → Kept (tells 0 v (withStream (l .taken) (l .sent + m) l)) a
+  sent-kept : (m v : ℕ) (q′ : Queue) (a : Told) → Holds (l .taken) (l .sent + m) sh q′ → a .chip ≡ withQueue q′ (chipFor l q sh) → a .number ≡ 0 → a .value ≡ v → Kept (tells 0 v (withStream (l .taken) (l .sent + m) l)) a
   sent-kept m v q′ a h e p r =
-      record { agrees = record { queue = q′; shadows = sh; is = e; good = record { holds = h; sixteen = g .sixteen; events = g .events } }; number = p; value = r }
+      record { agrees = record { queue = q′; shadows = sh; is = e; good = record { holds = h; sixteen = g .sixteen; counters = g .counters } }; number = p; value = r }
 
   -- a single send
-  sendTold : Bool → Told
-  sendTold none = cond none (tells 5 0 l) (tells 0 (getD (wordsOfAll (l .taken)) (l .sent) 0) (sentMore 1 l))
+  sendEntry : Bool → Entry
+  sendEntry none = cond none (tells 5 0 l) (tells 0 (getD (wordsOfAll (l .taken)) (l .sent) 0) (sentMore 1 l))
 
-  send-kept : Kept (sendTold (eqb (left l) 0)) (sendNow (chipFor l q sh))
-  unfolding sendTold
+  send-kept : Kept (sendEntry (eqb (left l) 0)) (sendNow (chipFor l q sh))
+  unfolding sendEntry
   send-kept = go (eqb (q .held) 0) refl
     where
-      go : (b : Bool) → eqb (q .held) 0 ≡ b → Kept (sendTold (eqb (left l) 0)) (cond b (replied NoWord (chipFor l q sh)) (done (nextWord sh q) (withQueue (advanced q) (chipFor l q sh))))
+      go : (b : Bool) → eqb (q .held) 0 ≡ b → Kept (sendEntry (eqb (left l) 0)) (cond b (replied NoWord (chipFor l q sh)) (done (nextWord sh q) (withQueue (advanced q) (chipFor l q sh))))
       go true e =
           let none : left l ≡ 0 = holds-none (l .taken) (l .sent) sh q (g .holds) (eqb-true (q .held) 0 e) in
-          subst (λ (b : Bool). Kept (sendTold b) (replied NoWord (chipFor l q sh))) (sym (eq-eqb (left l) 0 none)) (same 5 0 _ refl refl refl)
+          subst (λ (b : Bool). Kept (sendEntry b) (replied NoWord (chipFor l q sh))) (sym (eq-eqb (left l) 0 none)) (same 5 0 _ refl refl refl)
       go false e =
           let f : q .held ≡ 0 → ⊥ = eqb-false (q .held) 0 e in
           let some : l .sent < totalOf (l .taken) = holds-some (l .taken) (l .sent) sh q (g .holds) f in
           let now : l .sent + 1 ≡ l .sent + min 1 (left l) = omega arith in
-          subst (λ (b : Bool). Kept (sendTold b) (done (nextWord sh q) (withQueue (advanced q) (chipFor l q sh)))) (sym (ne-eqb (left l) 0 (λ z. omega arith)))
+          subst (λ (b : Bool). Kept (sendEntry b) (done (nextWord sh q) (withQueue (advanced q) (chipFor l q sh)))) (sym (ne-eqb (left l) 0 (λ z. omega arith)))
           (sent-kept (min 1 (left l)) _ (advanced q) _
           (subst (λ (n : ℕ). Holds (l .taken) n sh (advanced q)) now (holds-advanced (l .taken) (l .sent) sh q (g .holds) (g .sixteen) f))
           refl
@@ -254,13 +535,14 @@ module _ (l : Ledger) (q : Queue) (sh : List ℕ) (g : Good l q sh) where
 
 -- every operation on a record that a ledger leaves
 pub step-kept : (op : Operation) (l : Ledger) (q : Queue) (sh : List ℕ) → Good l q sh → Kept (toldOf op l) (step op (chipFor l q sh))
-unfolding toldOf sendTold write read timestampTicks nodeTicks externalEvents send sendInto
-step-kept opReset l q sh g = record { agrees = record { queue = emptyQueue; shadows = replicate 16 0; is = refl; good = reset-good 0 }; number = refl; value = refl }
-step-kept (opWrite address word lines) l q sh g = kept-guarded l q sh _ _ g (write-kept l q sh g (placeOf address) word lines)
-step-kept (opRead address) l q sh g = kept-guarded l q sh _ _ g (read-kept l q sh g (placeOf address))
+unfolding toldOf sendEntry withCounted write read timestampTicks nodeTicks externalEvents send sendInto
+step-kept opReset l q sh g =
+    record { agrees = record { queue = emptyQueue; shadows = replicate 16 0; is = reset-record 0; good = reset-good 0 }; number = refl; value = refl }
+step-kept (opWrite address bits lines) l q sh g = kept-guarded l q sh _ _ g (write-kept l q sh g bits lines address)
+step-kept (opRead address) l q sh g = kept-guarded l q sh _ _ g (read-kept l q sh g address)
 step-kept (opTicks k) l q sh g = kept-guarded l q sh _ _ g (ticks-kept l q sh g k)
-step-kept (opNodes k) l q sh g = kept-guarded l q sh _ _ g (happened-kept l q sh g (dueTo Node (l .select)) k)
-step-kept (opEvents mask) l q sh g = kept-guarded l q sh _ _ g (happened-kept l q sh g (λ i. bit mask i && dueTo External (l .select) i) 1)
+step-kept (opNodes k) l q sh g = kept-guarded l q sh _ _ g (happened-kept l q sh g Node (λ i. true) k)
+step-kept (opEvents mask) l q sh g = kept-guarded l q sh _ _ g (happened-kept l q sh g External (isSet mask) 1)
 step-kept opSend l q sh g = kept-guarded l q sh _ _ g (send-kept l q sh g)
 step-kept (opFill room) l q sh g = kept-guarded l q sh _ _ g (fill-kept l q sh g room)
 

@@ -1,6 +1,6 @@
 -- Demand 3, for every list of operations from a fresh chip, with no hypothesis on the list. The proof is one relation between ledger
 -- and record (`Agrees`), kept by every operation (`Steps`), and a fold. Assumes nothing.
-use Prim.Native.Nat.{ℕ, _+_, _-_, _%_, _^_, _≤_}
+use Prim.Native.Nat.{ℕ, _+_, _-_, _%_, _^_, _≤_, _<_}
 use native.Mathlib.Omega.{arith}
 use mathlib.Core.Path.{_≡_, refl, sym, ap, ap₂, _∙_}
 use mathlib.Core.Bool.{Bool, true, false, cond}
@@ -8,33 +8,29 @@ use mathlib.Core.List.{List, [], _∷_, _++_}
 use lib.Dec.{eqb, leb}
 use lib.ListN.{length, take, drop, getD, length-drop, take-append-drop, replicate}
 use lib.Seq.{take-all}
+use borrow.Author.Tests.{lt-ltb}
 use Rattle.queue.specs.Queue.{emptyQueue}
-use Rattle.chip.specs.Chip.{fresh, inside, lineOf}
-use Rattle.chip.specs.Fate.{Fate, fateReply, isOff, isFiltered, isLost, isTold, isTaken}
+use Rattle.chip.specs.Chip.{fresh, inside}
 use Rattle.chip.specs.Operation.{Operation, opWrite, step}
-use Rattle.chip.specs.Reply.{replyNumber}
-use Rattle.chip.specs.Rows.{oneActive, triggering}
 use Rattle.chip.specs.Shape.{Shaped}
 use Rattle.chip.specs.declared.chip.Chip.{Chip}
-use Rattle.chip.specs.declared.place.Place.{Place}
-use Rattle.chip.specs.declared.place.Place.the-variants.{Trace, Resource}
-use Rattle.chip.proofs.AddressLaws.{place-trigger}
 use Rattle.chip.proofs.Bounds.{fresh-shaped, keeps-shaped}
 use Rattle.chip.proofs.Bounds.{never-15 as inside-never-15}
-use Rattle.history.specs.Ledger.{Ledger, byFate, fateIn, ledgerFrom, ledgerOf, left, resetAt, tells, toldOf, triggered, written}
+use Rattle.history.specs.Ledger.{Entry, Fate, Ledger, byFate, fateIn, fateNumber, ledgerFrom, ledgerOf, left, lineIn, noCounter, resetAt, tells, toldOf, triggered, wasFiltered, wasLost, wasOff, wasTaken, wasTold, written}
 use Rattle.history.specs.Run.{chipOf, comeWithin, runFrom, sentFrom, sentOf, toCome}
 use Rattle.history.specs.Stream.{totalOf, wordsOfAll}
+use Rattle.history.proofs.Addresses.{range-trigger}
 use Rattle.history.proofs.Agrees.{Agrees, for-inside}
-use Rattle.history.proofs.CountLaws.{wrapped-at}
+use Rattle.history.proofs.CountLaws.{value-at}
 use Rattle.history.proofs.HeldLaws.{words-total}
 use Rattle.history.proofs.HoldsLaws.{held-count}
-use Rattle.history.proofs.Steps.{agrees-step, reset-good}
+use Rattle.history.proofs.Steps.{agrees-step, reset-good, reset-record}
 use Rattle.history.proofs.StreamLaws.{come-words, left-bound, stream-step}
 
 -- ---- the fold
 
 fresh-agrees : Agrees (resetAt 0) fresh
-fresh-agrees = record { queue = emptyQueue; shadows = replicate 16 0; is = refl; good = reset-good 0 }
+fresh-agrees = record { queue = emptyQueue; shadows = replicate 16 0; is = reset-record 0; good = reset-good 0 }
 
 run-agrees : (ops : List Operation) (l : Ledger) (c : Chip) → Agrees l c → Agrees (ledgerFrom l ops) (runFrom c ops)
 unfolding ledgerFrom runFrom
@@ -52,33 +48,27 @@ run-stream (op ∷ ops) l c ws a e = run-stream ops (toldOf op l .ledger) (step 
 -- ---- 1. Replies
 
 -- every operation's whole reply is what the list before it says
-pub reply-said : (ops : List Operation) (op : Operation) → (replyNumber (step op (chipOf ops) .reply) ≡ toldOf op (ledgerOf ops) .number) × (step op (chipOf ops) .value ≡ toldOf op (ledgerOf ops) .value)
+pub reply-said : (ops : List Operation) (op : Operation) → (step op (chipOf ops) .number ≡ toldOf op (ledgerOf ops) .number) × (step op (chipOf ops) .value ≡ toldOf op (ledgerOf ops) .value)
 reply-said ops op = let k = agrees-step op (ledgerOf ops) (chipOf ops) (agrees ops) in (k .number, k .value)
 
 -- so each unrefused trigger's reply is that of its fate: from 112 on it is a Resource trigger, and its level is the address modulo 16
-pub trigger-fate : (ops : List Operation) (address word lines : ℕ) → triggering address ≡ true → oneActive lines ≡ true → replyNumber (step (opWrite address word lines) (chipOf ops) .reply) ≡ replyNumber (fateReply (fateIn (leb 112 address) (address % 16) (ledgerOf ops)))
+pub trigger-fate : (ops : List Operation) (address bits lines : ℕ) → 96 ≤ address → address ≤ 127 → lineIn lines < 8 → step (opWrite address bits lines) (chipOf ops) .number ≡ fateNumber (fateIn (leb 112 address) (address % 16) (ledgerOf ops))
 unfolding toldOf written triggered byFate
-trigger-fate ops address word lines p e =
+trigger-fate ops address bits lines p h e =
     let l : Ledger = ledgerOf ops in
-    reply-said ops (opWrite address word lines) .0
-    ∙ ap (λ (x : Place). written x word lines l .number) (place-trigger address p)
-    ∙ kind (leb 112 address)
+    let r : Bool = leb 112 address in
+    let f : Fate = fateIn r (address % 16) l in
+    reply-said ops (opWrite address bits lines) .0
+    ∙ ap (λ (x : Entry). x .number) (range-trigger address l _ _ _ _ p h)
+    ∙ ap (λ (b : Bool). cond b (byFate f r (lineIn lines) bits l) (tells 4 0 l) .number) (lt-ltb (lineIn lines) 8 e)
+    ∙ number f r (lineIn lines) l
   where
-    number : (f : Fate) (r : Bool) (line : ℕ) (l : Ledger) → byFate f r line word l .number ≡ replyNumber (fateReply f)
-    number isOff r line l = refl
-    number isFiltered r line l = refl
-    number isLost r line l = refl
-    number isTold r line l = refl
-    number isTaken r line l = refl
-
-    by-line : (r : Bool) → triggered r (address % 16) word lines (ledgerOf ops) .number ≡ replyNumber (fateReply (fateIn r (address % 16) (ledgerOf ops)))
-    by-line r =
-        let f : Fate = fateIn r (address % 16) (ledgerOf ops) in
-        ap (λ (b : Bool). cond b (byFate f r (lineOf lines) word (ledgerOf ops)) (tells 4 0 (ledgerOf ops)) .number) e ∙ number f r (lineOf lines) (ledgerOf ops)
-
-    kind : (r : Bool) → written (cond r (Resource (address % 16)) (Trace (address % 16))) word lines (ledgerOf ops) .number ≡ replyNumber (fateReply (fateIn r (address % 16) (ledgerOf ops)))
-    kind true = by-line true
-    kind false = by-line false
+    number : (f : Fate) (r : Bool) (line : ℕ) (l : Ledger) → byFate f r line bits l .number ≡ fateNumber f
+    number wasOff r line l = refl
+    number wasFiltered r line l = refl
+    number wasLost r line l = refl
+    number wasTold r line l = refl
+    number wasTaken r line l = refl
 
 -- ---- 2. The words sent since the last reset, then the words still to come, are the words of the samples taken since then
 
@@ -118,8 +108,8 @@ overrun-counts ops = ap (λ (c : Chip). c .control .overrun) (agrees ops .is)
 
 -- ---- 5. Each counter is the events due to it since its last clearing, modulo 2^32
 
-pub counter-counts : (ops : List Operation) (i : ℕ) → getD (chipOf ops .bank .values) i 0 ≡ getD (ledgerOf ops .events) i 0 % 2 ^ 32
-counter-counts ops i = ap (λ (c : Chip). getD (c .bank .values) i 0) (agrees ops .is) ∙ wrapped-at (ledgerOf ops .events) i
+pub counter-counts : (ops : List Operation) (i : ℕ) → getD (chipOf ops .bank .values) i 0 ≡ getD (ledgerOf ops .counters) i noCounter .events % 2 ^ 32
+counter-counts ops i = ap (λ (c : Chip). getD (c .bank .values) i 0) (agrees ops .is) ∙ value-at (ledgerOf ops .counters) i
 
 -- ---- 6. The Wait Counter likewise, and the Timestamp modulo 2^56
 
@@ -136,7 +126,7 @@ always-inside ops =
     let a : Agrees (ledgerOf ops) (chipOf ops) = agrees ops in
     ap inside (a .is) ∙ for-inside (ledgerOf ops) (a .queue) (a .shadows) (a .good)
 
-pub never-15 : (ops : List Operation) (op : Operation) → eqb (replyNumber (step op (chipOf ops) .reply)) 15 ≡ false
+pub never-15 : (ops : List Operation) (op : Operation) → eqb (step op (chipOf ops) .number) 15 ≡ false
 never-15 ops op = inside-never-15 op (chipOf ops) (always-inside ops)
 
 -- ---- 8. And its lists have the lengths and widths that their types give

@@ -1,25 +1,20 @@
 -- Document 01, "Triggers and the queue": "For demand 3 the list decides alone". What a list of operations says, by a fold from the oldest
--- operation: unbounded numbers and lists; nothing of the chip's record is in it, and the chip is not run.
-use Prim.Native.Nat.{ℕ, _+_, _-_, _*_, _/_, _%_, _^_, min}
+-- operation: unbounded numbers and lists; nothing of the chip's record is in it, and the chip is not run. It goes by document 01's
+-- addresses and bits as numbers, and shares with the chip's definitions the operations and the sample with its layout, nothing else.
+use Prim.Native.Nat.{ℕ, suc, _+_, _-_, _*_, _/_, _%_, _^_, min}
 use mathlib.Core.Bool.{Bool, true, false, cond, _&&_, _||_}
 use mathlib.Core.List.{List, [], _∷_, _++_, map}
-use lib.Bits.{bitAnd, bitOr}
-use lib.Dec.{eqb}
+use lib.Dec.{eqb, leb, ltb}
 use lib.ListN.{getD, replicate, set}
 use Rattle.samples.specs.declared.sample.Sample.{Sample}
-use Rattle.counters.specs.Bank.{bit, each}
-use Rattle.counters.specs.Due.{selects}
-use Rattle.counters.specs.declared.switches.Kind.{Kind}
-use Rattle.counters.specs.declared.switches.Kind.the-variants.{Slow, External, Software, Node}
-use Rattle.chip.specs.Chip.{headerOf, lineOf}
-use Rattle.chip.specs.Control.{one, pair}
-use Rattle.chip.specs.Fate.{Fate, fate, isOff, isFiltered, isLost, isTold, isTaken}
 use Rattle.chip.specs.Operation.{Operation, opReset, opWrite, opRead, opTicks, opNodes, opEvents, opSend, opFill}
-use Rattle.chip.specs.Place.{placeOf}
-use Rattle.chip.specs.Rows.{oneActive}
-use Rattle.chip.specs.declared.place.Place.{Place}
-use Rattle.chip.specs.declared.place.Place.the-variants.{Beyond, Nowhere, Reset, Csr, Timestamp, Filter, Waits, Overruns, Mux, Clear, Enable, Disable, Source, Counter, Trace, Resource}
 use Rattle.history.specs.Stream.{anyHeld, heldOf, isBlocked, isFull, totalOf, wordsOfAll}
+
+-- whether bit i of a number is set
+abbrev pub isSet : ℕ → ℕ → Bool
+isSet x i = eqb (x / 2 ^ i % 2) 1
+
+-- ---- what is kept
 
 -- "CSR" and "Filter": the three settings and the Filter, by the writes alone
 pub record Settings : Type 0 where
@@ -28,11 +23,12 @@ pub record Settings : Type 0 where
   pub readwait : Bool
   pub filter : ℕ
 
--- "enabled set" and "MUX SEL": the set, and the low and the high bits of the fields
-pub record Select : Type 0 where
-  pub enabled : ℕ
-  pub low : ℕ
-  pub high : ℕ
+-- "Counters": whether it is enabled, the two bits of its MUX field, and the events due to it since its last clearing
+pub record Counter : Type 0 where
+  pub on : Bool
+  pub high : Bool
+  pub low : Bool
+  pub events : ℕ
 
 -- "Clearing means a reset, or the write at 5, 6 ..": triggers lost and waits since then, the overrun flags and the lost mark
 pub record Errors : Type 0 where
@@ -43,97 +39,163 @@ pub record Errors : Type 0 where
   pub mark : Bool
 
 -- Timestamp ticks since the hardware reset and since the last reset; "samples taken since the last reset, in order", whole, "and words
--- sent since then"; the events due to each counter since its last clearing
+-- sent since then"; eight Source Addresses and sixteen counters
 pub record Ledger : Type 0 where
   pub settings : Settings
-  pub select : Select
   pub sources : List ℕ
   pub clock : ℕ
   pub ticks : ℕ
   pub taken : List Sample
   pub sent : ℕ
   pub errors : Errors
-  pub events : List ℕ
+  pub counters : List Counter
+
+abbrev pub noCounter : Counter
+noCounter = record { on = false; high = false; low = false; events = 0 }
 
 -- "Everything becomes as after a hardware reset except the Timestamp": what a reset leaves
 abbrev pub resetAt : ℕ → Ledger
 resetAt clock =
     record {
       settings = record { sampling = false; writewait = false; readwait = false; filter = 0 };
-      select = record { enabled = 0; low = 0; high = 0 };
       sources = replicate 8 0;
       clock = clock;
       ticks = 0;
       taken = [];
       sent = 0;
       errors = record { lost = 0; waits = 0; flagfull = false; flagbusy = false; mark = false };
-      events = replicate 16 0;
+      counters = replicate 16 noCounter;
     }
 
 -- a ledger with another part
 abbrev pub withSettings : Settings → Ledger → Ledger
 withSettings x l =
-    record { settings = x; select = l .select; sources = l .sources; clock = l .clock; ticks = l .ticks; taken = l .taken; sent = l .sent; errors = l .errors; events = l .events }
-
-abbrev pub withSelect : Select → Ledger → Ledger
-withSelect x l =
-    record { settings = l .settings; select = x; sources = l .sources; clock = l .clock; ticks = l .ticks; taken = l .taken; sent = l .sent; errors = l .errors; events = l .events }
+    record { settings = x; sources = l .sources; clock = l .clock; ticks = l .ticks; taken = l .taken; sent = l .sent; errors = l .errors; counters = l .counters }
 
 abbrev pub withSources : List ℕ → Ledger → Ledger
 withSources x l =
-    record { settings = l .settings; select = l .select; sources = x; clock = l .clock; ticks = l .ticks; taken = l .taken; sent = l .sent; errors = l .errors; events = l .events }
+    record { settings = l .settings; sources = x; clock = l .clock; ticks = l .ticks; taken = l .taken; sent = l .sent; errors = l .errors; counters = l .counters }
 
 abbrev pub withStream : List Sample → ℕ → Ledger → Ledger
 withStream taken sent l =
-    record { settings = l .settings; select = l .select; sources = l .sources; clock = l .clock; ticks = l .ticks; taken = taken; sent = sent; errors = l .errors; events = l .events }
+    record { settings = l .settings; sources = l .sources; clock = l .clock; ticks = l .ticks; taken = taken; sent = sent; errors = l .errors; counters = l .counters }
 
 abbrev pub withErrors : Errors → Ledger → Ledger
 withErrors x l =
-    record { settings = l .settings; select = l .select; sources = l .sources; clock = l .clock; ticks = l .ticks; taken = l .taken; sent = l .sent; errors = x; events = l .events }
+    record { settings = l .settings; sources = l .sources; clock = l .clock; ticks = l .ticks; taken = l .taken; sent = l .sent; errors = x; counters = l .counters }
 
-abbrev pub withEvents : List ℕ → Ledger → Ledger
-withEvents x l =
-    record { settings = l .settings; select = l .select; sources = l .sources; clock = l .clock; ticks = l .ticks; taken = l .taken; sent = l .sent; errors = l .errors; events = x }
+abbrev pub withCounters : List Counter → Ledger → Ledger
+withCounters x l =
+    record { settings = l .settings; sources = l .sources; clock = l .clock; ticks = l .ticks; taken = l .taken; sent = l .sent; errors = l .errors; counters = x }
 
 abbrev pub withTicks : ℕ → Ledger → Ledger
 withTicks k l =
-    record { settings = l .settings; select = l .select; sources = l .sources; clock = l .clock + k; ticks = l .ticks + k; taken = l .taken; sent = l .sent; errors = l .errors; events = l .events }
+    record { settings = l .settings; sources = l .sources; clock = l .clock + k; ticks = l .ticks + k; taken = l .taken; sent = l .sent; errors = l .errors; counters = l .counters }
 
--- ---- events
+-- ---- counters
 
--- "An event counts if the counter is enabled and its field selects that kind"
-abbrev pub dueTo : Kind → Select → ℕ → Bool
-dueTo k s i = bit (s .enabled) i && selects k (bit (s .high) i) (bit (s .low) i)
+-- each of some counters becomes f of its number and itself, numbered from i
+unfoldable pub eachFrom : ℕ → (ℕ → Counter → Counter) → List Counter → List Counter
+eachFrom i f [] = []
+eachFrom i f (k ∷ ks) = f i k ∷ eachFrom (suc i) f ks
 
--- "Counters": k events for each counter that f names
-abbrev pub happened : (ℕ → Bool) → ℕ → Ledger → Ledger
-happened f k l = withEvents (each (λ i n. cond (f i) (n + k) n) 0 (l .events)) l
+abbrev pub each : (ℕ → Counter → Counter) → Ledger → Ledger
+each f l = withCounters (eachFrom 0 f (l .counters)) l
+
+-- "00 slow clock, 01 external, 10 software, 11 node clock", as numbers of two bits
+abbrev pub slow : ℕ
+slow = 0
+
+abbrev pub external : ℕ
+external = 1
+
+abbrev pub software : ℕ
+software = 2
+
+abbrev pub node : ℕ
+node = 3
+
+-- the MUX field as such a number
+abbrev pub fieldOf : Counter → ℕ
+fieldOf k = cond (k .high) 2 0 + cond (k .low) 1 0
+
+-- "An event counts if the counter is enabled and its field selects that kind": n events
+abbrev pub counted : ℕ → ℕ → Counter → Counter
+counted kind n k =
+    cond (k .on && eqb (fieldOf k) kind) (record { on = k .on; high = k .high; low = k .low; events = k .events + n }) k
+
+-- n events of a kind, for the counters that f names
+abbrev pub happened : ℕ → (ℕ → Bool) → ℕ → Ledger → Ledger
+happened kind f n l = each (λ i k. cond (f i) (counted kind n k) k) l
 
 -- "A slow event falls on every tenth Timestamp tick since the last reset"
 abbrev pub slowIn : ℕ → ℕ → ℕ
 slowIn ticks k = (ticks + k) / 10 - ticks / 10
 
+-- "clear the counters of the set bits", "enable ..", "disable ..": bit i is counter i's
+abbrev pub cleared : ℕ → ℕ → Counter → Counter
+cleared bits i k = cond (isSet bits i) (record { on = k .on; high = k .high; low = k .low; events = 0 }) k
+
+abbrev pub enabled : Bool → ℕ → ℕ → Counter → Counter
+enabled b bits i k = cond (isSet bits i) (record { on = b; high = k .high; low = k .low; events = k .events }) k
+
+-- "Counter i has MUX field bit 32+i (high), bit i (low)"
+abbrev pub selected : ℕ → ℕ → Counter → Counter
+selected bits i k = record { on = k .on; high = isSet bits (32 + i); low = isSet bits i; events = k .events }
+
+-- a number whose bit i is what f says of counter i
+unfoldable pub packed : (Counter → Bool) → List Counter → ℕ
+packed f [] = 0
+packed f (k ∷ ks) = cond (f k) 1 0 + 2 * packed f ks
+
 -- ---- triggers
+
+-- "exactly one active processor line" of the eight, and its number: line i alone is 2^i; 8 where it isn't so
+unfoldable pub lineAlone : ℕ → ℕ
+lineAlone n =
+    cond (eqb n 1) 0
+    (cond (eqb n 2) 1 (cond (eqb n 4) 2 (cond (eqb n 8) 3 (cond (eqb n 16) 4 (cond (eqb n 32) 5 (cond (eqb n 64) 6 (cond (eqb n 128) 7 8)))))))
+
+abbrev pub lineIn : ℕ → ℕ
+lineIn lines = lineAlone (lines % 256)
 
 -- "say which are held"
 abbrev pub held : Ledger → List Sample
 held l = heldOf (l .taken) (l .sent)
 
--- off, filtered, lost, told to wait or taken: "Whether a trigger lacks room follows from that"
+-- "off, filtered, lost, told to wait or taken"
+pub data Fate : Type 0 where
+  wasOff wasFiltered wasLost wasTold wasTaken : Fate
+
+-- "sampling is off"; "filtered"; "Whether a trigger lacks room follows from that": "Lacking room, it replies 10 under write wait.
+-- Otherwise it replies 8"
 abbrev pub fateIn : Bool → ℕ → Ledger → Fate
 fateIn resource level l =
-    fate (l .settings .sampling) (bit (l .settings .filter) level) (isFull (held l) || isBlocked resource (held l)) (l .settings .writewait)
+    let s = l .settings in
+    cond (s .sampling)
+    (cond (isSet (s .filter) level)
+    (cond (isFull (held l) || isBlocked resource (held l)) (cond (s .writewait) wasTold wasLost) wasTaken)
+    wasFiltered)
+    wasOff
 
--- "A taken sample fixes its fields at the trigger": header with line, kind and lost mark; that line's source address; Timestamp modulo
--- 2^40; user data modulo 2^48; for a Resource sample all sixteen counters
+-- the numbers of their replies
+abbrev pub fateNumber : Fate → ℕ
+fateNumber wasOff = 6
+fateNumber wasFiltered = 7
+fateNumber wasLost = 8
+fateNumber wasTold = 10
+fateNumber wasTaken = 0
+
+-- "A taken sample fixes its fields at the trigger": header with line, 8 for a Resource sample and 16 for the lost mark; that line's
+-- source address; Timestamp modulo 2^40; user data modulo 2^48; for a Resource sample all sixteen counters
 abbrev pub sampleIn : Bool → ℕ → ℕ → Ledger → Sample
-sampleIn resource line word l =
+sampleIn resource line bits l =
     record {
-      user = word % 2 ^ 48;
+      user = bits % 2 ^ 48;
       stamp = l .clock % 2 ^ 40;
       source = getD (l .sources) line 0;
-      header = headerOf line resource (l .errors .mark);
-      counters = cond resource (map (λ n. n % 2 ^ 32) (l .events)) (replicate 16 0);
+      header = line + cond resource 8 0 + cond (l .errors .mark) 16 0;
+      counters = cond resource (map (λ k. k .events % 2 ^ 32) (l .counters)) (replicate 16 0);
     }
 
 -- "adds one .., sets flag 8 .. and flag 9 .., and sets the lost mark"
@@ -151,91 +213,114 @@ unmarked e = record { lost = e .lost; waits = e .waits; flagfull = e .flagfull; 
 
 -- ---- operations: the reply's number and value by "Reply numbers" and "Address map", and the ledger after it
 
-pub record Told : Type 0 where
+pub record Entry : Type 0 where
   pub number : ℕ
   pub value : ℕ
   pub ledger : Ledger
 
-abbrev pub tells : ℕ → ℕ → Ledger → Told
+abbrev pub tells : ℕ → ℕ → Ledger → Entry
 tells n v l = record { number = n; value = v; ledger = l }
 
-unfoldable pub byFate : Fate → Bool → ℕ → ℕ → Ledger → Told
-byFate isOff resource line word l = tells 6 0 l
-byFate isFiltered resource line word l = tells 7 0 l
-byFate isLost resource line word l = tells 8 0 (withErrors (lostOne (isFull (held l)) (isBlocked resource (held l)) (l .errors)) l)
-byFate isTold resource line word l = tells 10 0 (withErrors (waitedOne (l .errors)) l)
-byFate isTaken resource line word l =
-    tells 0 0 (withStream (l .taken ++ (sampleIn resource line word l ∷ [])) (l .sent) (withErrors (unmarked (l .errors)) l))
+unfoldable pub byFate : Fate → Bool → ℕ → ℕ → Ledger → Entry
+byFate wasOff resource line bits l = tells 6 0 l
+byFate wasFiltered resource line bits l = tells 7 0 l
+byFate wasLost resource line bits l = tells 8 0 (withErrors (lostOne (isFull (held l)) (isBlocked resource (held l)) (l .errors)) l)
+byFate wasTold resource line bits l = tells 10 0 (withErrors (waitedOne (l .errors)) l)
+byFate wasTaken resource line bits l =
+    tells 0 0 (withStream (l .taken ++ (sampleIn resource line bits l ∷ [])) (l .sent) (withErrors (unmarked (l .errors)) l))
 
 -- "4 trigger without exactly one active processor line"
-unfoldable pub triggered : Bool → ℕ → ℕ → ℕ → Ledger → Told
-triggered resource level word lines l =
-    cond (oneActive lines) (byFate (fateIn resource level l) resource (lineOf lines) word l) (tells 4 0 l)
+unfoldable pub triggered : Bool → ℕ → ℕ → ℕ → Ledger → Entry
+triggered resource level bits lines l =
+    cond (ltb (lineIn lines) 8) (byFate (fateIn resource level l) resource (lineIn lines) bits l) (tells 4 0 l)
 
-unfoldable pub written : Place → ℕ → ℕ → Ledger → Told
-written Beyond word lines l = tells 1 0 l
-written Nowhere word lines l = tells 2 0 l
-written Reset word lines l = tells 0 0 (resetAt (l .clock))
-written Csr word lines l =
-    let s = l .settings in
-    tells 0 0
-    (withSettings
-    (record {
-      sampling = pair (bit word 0) (bit word 1) (s .sampling);
-      writewait = pair (bit word 2) (bit word 3) (s .writewait);
-      readwait = pair (bit word 4) (bit word 5) (s .readwait);
-      filter = s .filter;
-    })
-    l)
-written Timestamp word lines l = tells 3 0 l
-written Filter word lines l =
-    let s = l .settings in
-    tells 0 0 (withSettings (record { sampling = s .sampling; writewait = s .writewait; readwait = s .readwait; filter = word % 2 ^ 16 }) l)
-written Waits word lines l =
-    let e = l .errors in
-    tells 0 0 (withErrors (record { lost = e .lost; waits = 0; flagfull = e .flagfull; flagbusy = e .flagbusy; mark = e .mark }) l)
-written Overruns word lines l =
-    let e = l .errors in
-    tells 0 0 (withErrors (record { lost = 0; waits = e .waits; flagfull = false; flagbusy = false; mark = e .mark }) l)
-written Mux word lines l =
-    tells 0 0 (withSelect (record { enabled = l .select .enabled; low = word % 2 ^ 16; high = word / 2 ^ 32 % 2 ^ 16 }) l)
-written Clear word lines l = tells 0 0 (withEvents (each (λ i n. cond (bit (word % 2 ^ 16) i) 0 n) 0 (l .events)) l)
-written Enable word lines l =
-    let s = l .select in
-    tells 0 0 (withSelect (record { enabled = bitOr (s .enabled) (word % 2 ^ 16); low = s .low; high = s .high }) l)
-written Disable word lines l =
-    let s = l .select in
-    tells 0 0 (withSelect (record { enabled = bitAnd (s .enabled) (2 ^ 16 - 1 - word % 2 ^ 16); low = s .low; high = s .high }) l)
-written (Source i) word lines l = tells 0 0 (withSources (set (l .sources) i (word % 2 ^ 32)) l)
-written (Counter i) word lines l = tells 0 0 (happened (λ j. eqb j i && dueTo Software (l .select) j) 1 l)
-written (Trace level) word lines l = triggered false level word lines l
-written (Resource level) word lines l = triggered true level word lines l
+-- "All other addresses to 127 give 2": the gaps of the map
+abbrev pub gap : ℕ → ℕ → ℕ → Bool
+gap first last a = leb first a && leb a last
 
-unfoldable pub readIn : Place → Ledger → Told
-readIn Beyond l = tells 1 0 l
-readIn Nowhere l = tells 2 0 l
-readIn Reset l = tells 3 0 l
-readIn Csr l =
+unfoldable pub vacant : ℕ → Bool
+vacant a = eqb a 3 || (eqb a 7 || (eqb a 9 || (gap 13 15 a || (gap 24 31 a || gap 48 95 a))))
+
+-- "1 address above 127", "2 nothing at this address"; else by the map's ranges: from 96 on triggers, from 32 on counters, from 16 on
+-- Source Addresses, and below that the other registers
+unfoldable pub byRange : ℕ → Ledger → Entry → Entry → Entry → Entry → Entry
+byRange a l trigger counter source register =
+    cond (ltb 127 a) (tells 1 0 l)
+    (cond (vacant a) (tells 2 0 l) (cond (leb 96 a) trigger (cond (leb 32 a) counter (cond (leb 16 a) source register))))
+
+-- CSR: the two bits of a pair as a number. 0 does nothing, 1 is the even bit alone, 2 and 3 have the odd one, which wins
+abbrev pub turned : ℕ → Bool → Bool
+turned n before = cond (eqb n 0) before (eqb n 1)
+
+-- "Writing a 1 in bit 0 turns sampling on, in bit 1 off; bit 2 sets write wait, bit 3 discard; bit 4 sets read wait, bit 5 cancels it"
+abbrev pub configured : ℕ → Settings → Settings
+configured bits s =
+    record { sampling = turned (bits % 4) (s .sampling); writewait = turned (bits / 4 % 4) (s .writewait); readwait = turned (bits / 16 % 4) (s .readwait); filter = s .filter }
+
+abbrev pub filtering : ℕ → Settings → Settings
+filtering bits s = record { sampling = s .sampling; writewait = s .writewait; readwait = s .readwait; filter = bits % 2 ^ 16 }
+
+-- "clear Wait / Overrun Counter"; "Writing address 6 also clears flags 8 and 9, not the lost mark"
+abbrev pub waitsCleared : Errors → Errors
+waitsCleared e = record { lost = e .lost; waits = 0; flagfull = e .flagfull; flagbusy = e .flagbusy; mark = e .mark }
+
+abbrev pub lostCleared : Errors → Errors
+lostCleared e = record { lost = 0; waits = e .waits; flagfull = false; flagbusy = false; mark = e .mark }
+
+-- a write below 16, by the map's rows: 0 software reset, 1 CSR, 2 refused, 4 Filter, 5 and 6 clear, 8 MUX SEL, 10 clears counters, 11
+-- enables and 12 disables them
+unfoldable pub writtenLow : ℕ → ℕ → Ledger → Entry
+writtenLow a bits l =
+    cond (eqb a 0) (tells 0 0 (resetAt (l .clock)))
+    (cond (eqb a 1) (tells 0 0 (withSettings (configured bits (l .settings)) l))
+    (cond (eqb a 2) (tells 3 0 l)
+    (cond (eqb a 4) (tells 0 0 (withSettings (filtering bits (l .settings)) l))
+    (cond (eqb a 5) (tells 0 0 (withErrors (waitsCleared (l .errors)) l))
+    (cond (eqb a 6) (tells 0 0 (withErrors (lostCleared (l .errors)) l))
+    (cond (eqb a 8) (tells 0 0 (each (selected bits) l))
+    (cond (eqb a 10) (tells 0 0 (each (cleared bits) l))
+    (cond (eqb a 11) (tells 0 0 (each (enabled true bits) l)) (tells 0 0 (each (enabled false bits) l))))))))))
+
+-- a write: "96..111 Trace trigger, filter level = address mod 16", "112..127 Resource trigger, level likewise", "32..47 software event for
+-- counter 0..15", "16..23 Source Address 0..7, 32 bits"
+unfoldable pub written : ℕ → ℕ → ℕ → Ledger → Entry
+written a bits lines l =
+    byRange a l
+    (triggered (leb 112 a) (a % 16) bits lines l)
+    (tells 0 0 (happened software (λ i. eqb i (a - 32)) 1 l))
+    (tells 0 0 (withSources (set (l .sources) (a - 16) (bits % 2 ^ 32)) l))
+    (writtenLow a bits l)
+
+-- "Reading gives the three settings in bits 0, 2 and 4; bit 6 FIFO full (8 samples held); bit 7 shadows busy; bits 8 and 9 the overrun
+-- flags; all others zero"
+abbrev pub csrIn : Ledger → ℕ
+csrIn l =
     let s = l .settings in
-    tells 0
-    ((one (s .sampling) + 4 * one (s .writewait) + 16 * one (s .readwait))
-    + (64 * one (isFull (held l)) + 128 * one (anyHeld (held l)))
-    + (256 * one (l .errors .flagfull) + 512 * one (l .errors .flagbusy)))
-    l
-readIn Timestamp l = tells 0 (l .clock % 2 ^ 56) l
-readIn Filter l = tells 0 (l .settings .filter) l
-readIn Waits l = tells 0 (l .errors .waits % 2 ^ 32) l
-readIn Overruns l = tells 0 (l .errors .lost % 2 ^ 32) l
-readIn Mux l = tells 0 (l .select .low + 2 ^ 32 * l .select .high) l
-readIn Clear l = tells 3 0 l
-readIn Enable l = tells 0 (l .select .enabled) l
-readIn Disable l = tells 3 0 l
-readIn (Source i) l = tells 0 (getD (l .sources) i 0) l
-readIn (Counter i) l =
+    (cond (s .sampling) 1 0 + cond (s .writewait) 4 0 + cond (s .readwait) 16 0)
+    + (cond (isFull (held l)) 64 0 + cond (anyHeld (held l)) 128 0)
+    + (cond (l .errors .flagfull) 256 0 + cond (l .errors .flagbusy) 512 0)
+
+-- a read below 16: 1 CSR, 2 Timestamp, 4 Filter, 5 Wait Counter, 6 Overrun Counter, 8 MUX SEL, 11 enabled set; 0, 10 and 12 are refused
+unfoldable pub readLow : ℕ → Ledger → Entry
+readLow a l =
+    cond (eqb a 1) (tells 0 (csrIn l) l)
+    (cond (eqb a 2) (tells 0 (l .clock % 2 ^ 56) l)
+    (cond (eqb a 4) (tells 0 (l .settings .filter) l)
+    (cond (eqb a 5) (tells 0 (l .errors .waits % 2 ^ 32) l)
+    (cond (eqb a 6) (tells 0 (l .errors .lost % 2 ^ 32) l)
+    (cond (eqb a 8) (tells 0 (packed (λ k. k .low) (l .counters) + 2 ^ 32 * packed (λ k. k .high) (l .counters)) l)
+    (cond (eqb a 11) (tells 0 (packed (λ k. k .on) (l .counters)) l) (tells 3 0 l)))))))
+
+-- "With the shadows busy: reply 10 if read wait is set, otherwise 11"; else counter i
+abbrev pub counterRead : ℕ → Ledger → Entry
+counterRead i l =
     cond (anyHeld (held l)) (cond (l .settings .readwait) (tells 10 0 (withErrors (waitedOne (l .errors)) l)) (tells 11 (2 ^ 63) l))
-    (tells 0 (getD (l .events) i 0 % 2 ^ 32) l)
-readIn (Trace level) l = tells 3 0 l
-readIn (Resource level) l = tells 3 0 l
+    (tells 0 (getD (l .counters) i noCounter .events % 2 ^ 32) l)
+
+-- a read: triggers are "refused (3)"; "that counter", "same register"
+unfoldable pub readIn : ℕ → Ledger → Entry
+readIn a l =
+    byRange a l (tells 3 0 l) (counterRead (a - 32) l) (tells 0 (getD (l .sources) (a - 16) 0) l) (readLow a l)
 
 -- "A send that finds n words left and has room for m sends the smaller number"
 abbrev pub left : Ledger → ℕ
@@ -245,13 +330,13 @@ abbrev pub sentMore : ℕ → Ledger → Ledger
 sentMore room l = withStream (l .taken) (l .sent + min room (left l)) l
 
 -- one operation
-unfoldable pub toldOf : Operation → Ledger → Told
+unfoldable pub toldOf : Operation → Ledger → Entry
 toldOf opReset l = tells 0 0 (resetAt 0)
-toldOf (opWrite address word lines) l = written (placeOf address) word lines l
-toldOf (opRead address) l = readIn (placeOf address) l
-toldOf (opTicks k) l = tells 0 0 (withTicks k (happened (dueTo Slow (l .select)) (slowIn (l .ticks) k) l))
-toldOf (opNodes k) l = tells 0 0 (happened (dueTo Node (l .select)) k l)
-toldOf (opEvents mask) l = tells 0 0 (happened (λ i. bit mask i && dueTo External (l .select) i) 1 l)
+toldOf (opWrite address bits lines) l = written address bits lines l
+toldOf (opRead address) l = readIn address l
+toldOf (opTicks k) l = tells 0 0 (withTicks k (happened slow (λ i. true) (slowIn (l .ticks) k) l))
+toldOf (opNodes k) l = tells 0 0 (happened node (λ i. true) k l)
+toldOf (opEvents mask) l = tells 0 0 (happened external (isSet mask) 1 l)
 toldOf opSend l = cond (eqb (left l) 0) (tells 5 0 l) (tells 0 (getD (wordsOfAll (l .taken)) (l .sent) 0) (sentMore 1 l))
 toldOf (opFill room) l = tells 0 (min room (left l)) (sentMore room l)
 

@@ -7,7 +7,6 @@ use lib.Dec.{eqb}
 use lib.ListN.{replicate, take}
 use Rattle.chip.specs.Chip.{fresh, sentBuffer}
 use Rattle.chip.specs.Operation.{Operation, opReset, opWrite, opRead, opTicks, opNodes, opEvents, opSend, opFill, step}
-use Rattle.chip.specs.Reply.{replyNumber}
 use Rattle.chip.specs.declared.chip.Chip.{Chip}
 
 -- the chip after a list of operations, the oldest first
@@ -22,12 +21,12 @@ chipOf ops = runFrom fresh ops
 -- write at address 0, begins anew; a send that is done adds its value, and a buffer send what it wrote at the start of a buffer
 unfoldable pub streamAfter : Operation → Chip → List ℕ → List ℕ
 streamAfter opReset c ws = []
-streamAfter (opWrite address word lines) c ws = cond (eqb address 0) [] ws
+streamAfter (opWrite address bits lines) c ws = cond (eqb address 0) [] ws
 streamAfter (opRead address) c ws = ws
 streamAfter (opTicks k) c ws = ws
 streamAfter (opNodes k) c ws = ws
 streamAfter (opEvents mask) c ws = ws
-streamAfter opSend c ws = ws ++ cond (eqb (replyNumber (step opSend c .reply)) 0) (step opSend c .value ∷ []) []
+streamAfter opSend c ws = ws ++ cond (eqb (step opSend c .number) 0) (step opSend c .value ∷ []) []
 streamAfter (opFill room) c ws = ws ++ take (step (opFill room) c .value) (sentBuffer c (replicate room 0))
 
 -- after all of them
@@ -43,7 +42,7 @@ sentOf ops = sentFrom fresh [] ops
 unfoldable pub comeWithin : ℕ → Chip → List ℕ
 comeWithin zero c = []
 comeWithin (suc n) c =
-    cond (eqb (replyNumber (step opSend c .reply)) 5) [] (step opSend c .value ∷ comeWithin n (step opSend c .chip))
+    cond (eqb (step opSend c .number) 5) [] (step opSend c .value ∷ comeWithin n (step opSend c .chip))
 
 -- eight samples of at most 80 words are held: 640 is enough (`come-enough`)
 abbrev pub toCome : Chip → List ℕ

@@ -74,6 +74,18 @@ odd-parity w =
     let low : onesIn 8 (w % 256) ≡ onesIn 8 w = ones-mod 8 w in
     eqb-same (onesIn 9 w % 2) 1 (w / 256 % 2) ((onesIn 8 (w % 256) + 1) % 2) (λ q. omega arith) (λ q. omega arith)
 
+-- no word is 0: the byte 0 has the parity bit 1
+zero-parity : parityOf 0 ≡ 1
+unfolding parityOf onesIn
+zero-parity = refl
+
+pub word-some : (last : Bool) (b : ℕ) → wordOf last b ≡ 0 → ⊥
+unfolding wordOf
+word-some last b e =
+    let none : b ≡ 0 = omega arith in
+    let odd : parityOf b ≡ 1 = ap parityOf none ∙ zero-parity in
+    omega arith
+
 -- what a reader finds in the word of a byte
 module _ (last : Bool) (b : ℕ) (h : b < 256) where
   pub word-small : tooLarge (wordOf last b) ≡ false

@@ -1,10 +1,7 @@
--- `chip::chip::Chip::write_at` meets its contract: each arm is one case of the map, and the last one two. Assumes nothing.
+-- `chip::chip::Chip::write_at` meets its contract: each arm is one case of the map. Assumes nothing.
 use borrow.Author.Needs.{needs}
-use mathlib.Core.Path.{sym, ap, ap₂, _∙_}
-use mathlib.Core.Bool.{Bool}
-use mathlib.Core.Logic.{⊎-elim}
-use Prim.Native.Nat.{ℕ}
-use Rattle.chip.specs.Chip.{done, trigger, withBank, withControl, withSwitches, writeAt}
+use mathlib.Core.Path.{sym, ap, _∙_}
+use Rattle.chip.specs.Chip.{done, withBank, withControl, withSwitches, writeAt}
 use Rattle.chip.specs.declared.place.Place.{Place}
 use Rattle.chip.proofs.chip.Chip.write_at.Statement.{statement}
 use Rattle.chip.proofs.chip.Chip.write_at.Tie as tie
@@ -162,12 +159,6 @@ done-requires-11 c κs = search needs
 enum-known-place-3 : tie.Need-enum-known-place-3
 enum-known-place-3 c = search needs
 
-enum-known-place-4 : tie.Need-enum-known-place-4
-enum-known-place-4 c = search needs
-
-takes-counters-requires : tie.Need-takes-counters-requires
-takes-counters-requires c κs = search needs
-
 trigger-requires : tie.Need-trigger-requires
 trigger-requires c κs = search needs
 
@@ -272,15 +263,9 @@ returns-14 c =
 returns-15 : tie.Need-returns-15
 unfolding writeAt
 returns-15 c =
-    let a = c .before .before .before .args in
+    let a = c .before .before .before .before .args in
     let s = a .self in
-    let arm = c .before .before .match in
-    let counters = c .before .takes-counters in
-    c .trigger .ensures
-    ∙ ⊎-elim
-    (λ w. ap₂ (λ (r : Bool) (l : ℕ). trigger r l (a .word) (a .lines) s) (counters .ensures .0 (w .1 .given .0 .0) (w .3)) (w .4) ∙ ap (λ (p : Place). writeAt p (a .word) (a .lines) s) (sym (w .1 .given .1)))
-    (λ w. ap₂ (λ (r : Bool) (l : ℕ). trigger r l (a .word) (a .lines) s) (counters .ensures .1 (w .1 .given .0 .0) (w .3)) (w .4) ∙ ap (λ (p : Place). writeAt p (a .word) (a .lines) s) (sym (w .1 .given .1)))
-    (arm .came)
+    c .trigger .ensures ∙ ap (λ (p : Place). writeAt p (a .word) (a .lines) s) (sym (c .before .before .place3 .given .1))
 
 pub write-at-spec : {M : Type 1} → statement M
 write-at-spec =
@@ -337,8 +322,6 @@ write-at-spec =
     banked-requires-2
     done-requires-11
     enum-known-place-3
-    enum-known-place-4
-    takes-counters-requires
     trigger-requires
     returns
     returns-2
