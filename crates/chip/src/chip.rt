@@ -271,22 +271,13 @@ impl Chip {
         self
     }
 
-    // A Source Address register takes a number. Eight fixed places: with a computed one the compiler copies the whole record at every
-    // operation (docs/PERFORMANCE.md).
+    // A Source Address register takes a number.
     fn sourced(mut self, index: usize, number: u32) -> Chip
         ensures { λ r. ⌜ r ≡ withSources (set (self .sources) index number) self ⌝ }
     {
-        match index {
-            0 => self.sources[0] = number,
-            1 => self.sources[1] = number,
-            2 => self.sources[2] = number,
-            3 => self.sources[3] = number,
-            4 => self.sources[4] = number,
-            5 => self.sources[5] = number,
-            6 => self.sources[6] = number,
-            7 => self.sources[7] = number,
-            _ => {}
-        }
+        let sources = self.sources;
+        let next = stored(sources, index, number);
+        self.sources = next;
         self
     }
 
@@ -411,4 +402,27 @@ fn none_held(held: usize) -> bool
     ensures { λ r. ⌜ r ≡ noneHeld held ⌝ }
 {
     held == 0
+}
+
+// The registers with a number stored at one of them. Every place is visited: with a computed one the compiler copies the whole record
+// at every operation (docs/PERFORMANCE.md).
+fn stored(mut sources: [u32; 8], at: usize, number: u32) -> [u32; 8]
+    ensures { λ r. ⌜ r ≡ set sources at number ⌝ }
+{
+    let mut i = 0;
+    while i < 8 {
+        let old = sources[i];
+        sources[i] = chosen(old, i == at, number);
+        i += 1;
+    }
+    sources
+}
+
+fn chosen(old: u32, yes: bool, new: u32) -> u32
+    ensures { λ r. ⌜ r ≡ cond yes new old ⌝ }
+{
+    if yes {
+        return new;
+    }
+    old
 }
