@@ -240,3 +240,9 @@ pub repeat-inside : (k : ℕ) (op : Operation) (c : Chip) → inside c ≡ true 
 unfolding repeat
 repeat-inside zero op c h = h
 repeat-inside (suc k) op c h = repeat-inside k op (step op c .chip) (keeps-inside op c h)
+
+-- and one that leaves the record leaves it every time
+pub repeat-same : (k : ℕ) (op : Operation) (c : Chip) → step op c .chip ≡ c → repeat k op c ≡ c
+unfolding repeat
+repeat-same zero op c e = refl
+repeat-same (suc k) op c e = ap (repeat k op) e ∙ repeat-same k op c e

@@ -11,8 +11,8 @@ use counters::switches::Switches;
 use queue::queue::Held;
 use queue::queue::Queue;
 ghost use mathlib.Core.Path.{_≡_};
-ghost use mathlib.Core.Bool.{cond, false, true};
-ghost use Prim.Native.Nat.{ℕ, _<_, _≤_, _^_};
+ghost use mathlib.Core.Bool.{cond};
+ghost use Prim.Native.Nat.{_<_, _^_};
 ghost use lib.ListN.{getD, length, set};
 ghost use Rattle.counters.specs.Bank.{copied};
 ghost use Rattle.chip.specs.Reply.{told};
@@ -330,7 +330,7 @@ impl Chip {
 
     // The same, of a trigger with one active line.
     fn trigger_line(self, resource: bool, level: usize, word: u64, line: u32) -> Answer
-        requires { ⌜ line ≤ 8 ⌝ }
+        requires { ⌜ line < 8 ⌝ }
         ensures { λ r. ⌜ told r ≡ triggerBy (fateOf resource level self) resource line word self ⌝ }
     {
         let control = self.control;
@@ -361,7 +361,7 @@ impl Chip {
 
     // A sample is taken as the record stands.
     fn take(mut self, resource: bool, line: u32, word: u64) -> Chip
-        requires { ⌜ line ≤ 8 ⌝ }
+        requires { ⌜ line < 8 ⌝ }
         ensures { λ r. ⌜ r ≡ takeSample resource line word self ⌝ }
     {
         let sample = self.sample_now(resource, line, word);
@@ -385,7 +385,7 @@ impl Chip {
     }
 
     fn sample_now(self, resource: bool, line: u32, word: u64) -> Held
-        requires { ⌜ line ≤ 8 ⌝ }
+        requires { ⌜ line < 8 ⌝ }
         ensures { λ r. ⌜ r ≡ sampleNow resource line word self ⌝ }
     {
         Held {

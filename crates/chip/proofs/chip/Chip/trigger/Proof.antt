@@ -2,16 +2,19 @@
 use borrow.Author.Needs.{needs}
 use mathlib.Core.Path.{sym, ap, _∙_}
 use mathlib.Core.Bool.{Bool, cond}
-use lib.Count.{onesIn, trailing-le}
+use lib.Count.{onesIn}
 use borrow.Author.Tests.{eq-eqb, ne-eqb}
 use Rattle.words.proofs.WordLaws.{ones-in}
 use Rattle.chip.specs.Chip.{fateOf, lineOf, replied, trigger, triggerBy}
 use Rattle.chip.specs.declared.reply.Reply.the-variants.{Lines}
+use Rattle.chip.proofs.LineLaws.{line-below}
 use Rattle.chip.proofs.chip.Chip.trigger.Statement.{statement}
 use Rattle.chip.proofs.chip.Chip.trigger.Tie as tie
 
 trigger-line-requires : tie.Need-trigger-line-requires
-trigger-line-requires c κs = trailing-le 8 (c .before .args .lines)
+trigger-line-requires c κs =
+    let lines = c .before .args .lines in
+    line-below lines (eq-eqb (onesIn 8 lines) 1 (sym (ones-in 8 lines (search needs)) ∙ c .if1 .taken))
 
 returns : tie.Need-returns
 unfolding trigger
