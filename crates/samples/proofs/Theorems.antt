@@ -21,17 +21,7 @@ use Rattle.samples.specs.declared.reader.Answer.the-variants.{Good}
 use Rattle.samples.proofs.Gather.{within-gather}
 use Rattle.samples.proofs.ReadLaws.{header-byte, map-below, drop-below, read-good, scan-enough}
 use Rattle.samples.proofs.RoundTrip.{bytes-back, first-passed, header-fit, sample-back, scan-words, scan-written, sixteen-fit}
-use Rattle.samples.proofs.SampleLaws.{bytes-length}
-use Rattle.samples.proofs.Spread.{below-append, spread-below}
-
--- a sample's bytes are bytes
-bytes-below : (w : Widths) (s : Sample) (i : ℕ) → getD (sampleBytes w s) i 0 < 256
-unfolding sampleBytes fieldBytes counterBytes
-bytes-below w s = below-append (spread (fieldWidths w) (s .header ∷ s .source ∷ s .stamp ∷ s .user ∷ [])) (cond (resource (s .header)) (spread counterWidths (s .counters)) []) (spread-below (fieldWidths w) (s .header ∷ s .source ∷ s .stamp ∷ s .user ∷ [])) (go (resource (s .header)))
-  where
-    go : (r : Bool) (i : ℕ) → getD (cond r (spread counterWidths (s .counters)) []) i 0 < 256
-    go true i = spread-below counterWidths (s .counters) i
-    go false i = omega arith
+use Rattle.samples.proofs.SampleLaws.{bytes-below, bytes-length}
 
 -- the header's byte comes first
 rest-of : Widths → Sample → List ℕ
