@@ -10,9 +10,9 @@ use lib.ListN.{drop, length, replicate, take, length-drop}
 use lib.Seq.{length-take-le}
 use borrow.Author.Tests.{eq-eqb, lt-ltb, ne-eqb}
 use Rattle.samples.specs.Layout.{counterWidths, firstChip, resource, sampleLength, sampleWords}
-use Rattle.samples.specs.Read.{readPart}
+use Rattle.samples.specs.Read.{foundBy, readPart}
 use Rattle.samples.specs.Write.{allZero, within, writable}
-use Rattle.samples.specs.declared.reader.Answer.the-variants.{Good}
+use Rattle.samples.specs.declared.reader.Verdict.the-variants.{Good}
 use Rattle.samples.proofs.RoundTrip.{within-length}
 use Rattle.samples.proofs.SampleLaws.{sample-length}
 use Rattle.samples.proofs.Theorems.{read-written, within-kind, zeros-kind}
@@ -92,10 +92,10 @@ module _ (r : Bool) (line word : ℕ) (c : Chip) (small : line < 8) (s : Shaped 
       copy false e = s .shadows
 
   -- so the reader gives it back from its words, whatever comes after them
-  pub taken-read : (rest : List ℕ) → readPart firstChip (sampleWords firstChip (takenSample r line word c) ++ rest) ≡ record { sample = takenSample r line word c; count = sampleLength firstChip r; answer = Good }
+  pub taken-read : (rest : List ℕ) → readPart firstChip (sampleWords firstChip (takenSample r line word c) ++ rest) ≡ foundBy Good (takenSample r line word c) (sampleLength firstChip r)
   taken-read rest =
       read-written firstChip (takenSample r line word c) rest taken-writable
-      ∙ ap (λ (k : Bool). record { sample = takenSample r line word c; count = sampleLength firstChip k; answer = Good }) (header-kind line small r (c .control .lost))
+      ∙ ap (λ (k : Bool). foundBy Good (takenSample r line word c) (sampleLength firstChip k)) (header-kind line small r (c .control .lost))
 
 -- ---- "0 .. sample taken"
 
