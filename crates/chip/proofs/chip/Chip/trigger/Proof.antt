@@ -21,7 +21,7 @@ unfolding trigger
 returns c =
     let a = c .before .before .args in
     c .trigger-line .ensures
-    ∙ ap (λ (b : Bool). cond b (triggerBy (fateOf (a .resource) (a .level) (a .self)) (a .resource) (lineOf (a .lines)) (a .word) (a .self)) (replied Lines (a .self)))
+    ∙ ap (λ (b : Bool). cond b (triggerBy (fateOf (a .resource) (a .level) (a .self)) (a .resource) (lineOf (a .lines)) (a .bits) (a .self)) (replied Lines (a .self)))
     (sym (eq-eqb (onesIn 8 (a .lines)) 1 (sym (ones-in 8 (a .lines) (search needs)) ∙ c .before .if1 .taken)))
 
 replied-requires : tie.Need-replied-requires
@@ -32,7 +32,7 @@ unfolding trigger
 returns-2 c =
     let a = c .before .before .args in
     c .replied .ensures
-    ∙ ap (λ (b : Bool). cond b (triggerBy (fateOf (a .resource) (a .level) (a .self)) (a .resource) (lineOf (a .lines)) (a .word) (a .self)) (replied Lines (a .self)))
+    ∙ ap (λ (b : Bool). cond b (triggerBy (fateOf (a .resource) (a .level) (a .self)) (a .resource) (lineOf (a .lines)) (a .bits) (a .self)) (replied Lines (a .self)))
     (sym (ne-eqb (onesIn 8 (a .lines)) 1 (λ q. c .before .if1 .left (ones-in 8 (a .lines) (search needs) ∙ q))))
 
 pub trigger-spec : {M : Type 1} → statement M
