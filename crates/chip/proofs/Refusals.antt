@@ -42,14 +42,14 @@ KeptBy r c a = Kept r c (a .number) (a .value) (a .chip)
 kept-guard : (r b : Bool) (c : Chip) (a : Told) → KeptBy r c a → KeptBy r c (cond b a (replied Outside c))
 kept-guard r b c a k = by-bounds (λ t x. KeptBy r c x) b c a k (refl, refl)
 
-kept-trigger : (o r : Bool) (f : Fate) (line word : ℕ) (c : Chip) → KeptBy r c (cond o (triggerBy f r line word c) (replied Lines c))
+kept-trigger : (o r : Bool) (f : Fate) (line bits : ℕ) (c : Chip) → KeptBy r c (cond o (triggerBy f r line bits c) (replied Lines c))
 unfolding triggerBy
-kept-trigger false r f line word c = (refl, refl)
-kept-trigger true r isOff line word c = (refl, refl)
-kept-trigger true r isFiltered line word c = (refl, refl)
-kept-trigger true r isLost line word c = (refl, refl)
-kept-trigger true r isTold line word c = (refl, refl)
-kept-trigger true r isTaken line word c = tt
+kept-trigger false r f line bits c = (refl, refl)
+kept-trigger true r isOff line bits c = (refl, refl)
+kept-trigger true r isFiltered line bits c = (refl, refl)
+kept-trigger true r isLost line bits c = (refl, refl)
+kept-trigger true r isTold line bits c = (refl, refl)
+kept-trigger true r isTaken line bits c = tt
 
 abbrev resourceAt : Place → Bool
 resourceAt Beyond = false
@@ -68,23 +68,23 @@ resourceAt (Source i) = false
 resourceAt (Counter i) = false
 resourceAt (Trigger r level) = r
 
-kept-write : (p : Place) (word lines : ℕ) (c : Chip) → KeptBy (resourceAt p) c (writeAt p word lines c)
+kept-write : (p : Place) (bits lines : ℕ) (c : Chip) → KeptBy (resourceAt p) c (writeAt p bits lines c)
 unfolding writeAt trigger
-kept-write Beyond word lines c = (refl, refl)
-kept-write Nowhere word lines c = (refl, refl)
-kept-write Reset word lines c = tt
-kept-write Csr word lines c = tt
-kept-write Timestamp word lines c = (refl, refl)
-kept-write Filter word lines c = tt
-kept-write Waits word lines c = tt
-kept-write Overruns word lines c = tt
-kept-write Mux word lines c = tt
-kept-write Clear word lines c = tt
-kept-write Enable word lines c = tt
-kept-write Disable word lines c = tt
-kept-write (Source i) word lines c = tt
-kept-write (Counter i) word lines c = tt
-kept-write (Trigger r level) word lines c = kept-trigger (oneLine lines) r (fateOf r level c) (lineOf lines) word c
+kept-write Beyond bits lines c = (refl, refl)
+kept-write Nowhere bits lines c = (refl, refl)
+kept-write Reset bits lines c = tt
+kept-write Csr bits lines c = tt
+kept-write Timestamp bits lines c = (refl, refl)
+kept-write Filter bits lines c = tt
+kept-write Waits bits lines c = tt
+kept-write Overruns bits lines c = tt
+kept-write Mux bits lines c = tt
+kept-write Clear bits lines c = tt
+kept-write Enable bits lines c = tt
+kept-write Disable bits lines c = tt
+kept-write (Source i) bits lines c = tt
+kept-write (Counter i) bits lines c = tt
+kept-write (Trigger r level) bits lines c = kept-trigger (oneLine lines) r (fateOf r level c) (lineOf lines) bits c
 
 kept-count : (r b w : Bool) (c d : Chip) (v : ℕ) → KeptBy r c (cond b (cond w (replied Wait (withControl (waited (c .control)) c)) (replied Busy c)) (done v d))
 kept-count r true true c d v = (refl, refl)
@@ -119,9 +119,9 @@ resource-at a =
 kept : (op : Operation) (c : Chip) → KeptBy (resourceTrigger op) c (step op c)
 unfolding write read timestampTicks nodeTicks externalEvents send sendInto
 kept opReset c = tt
-kept (opWrite a word lines) c =
-    kept-guard (between 112 127 a) (inside c) c (writeAt (placeOf a) word lines c)
-    (subst (λ (r : Bool). KeptBy r c (writeAt (placeOf a) word lines c)) (resource-at a) (kept-write (placeOf a) word lines c))
+kept (opWrite a bits lines) c =
+    kept-guard (between 112 127 a) (inside c) c (writeAt (placeOf a) bits lines c)
+    (subst (λ (r : Bool). KeptBy r c (writeAt (placeOf a) bits lines c)) (resource-at a) (kept-write (placeOf a) bits lines c))
 kept (opRead a) c = kept-guard false (inside c) c (readAt (placeOf a) c) (kept-read false (placeOf a) c)
 kept (opTicks k) c = kept-guard false (inside c) c (done 0 (afterTicks k c)) tt
 kept (opNodes k) c = kept-guard false (inside c) c (done 0 _) tt

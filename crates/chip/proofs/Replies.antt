@@ -98,8 +98,8 @@ tests-counter a h e =
 abbrev short : Chip → ℕ → Bool
 short c a = lacksRoom (leb 112 a) (c .queue)
 
-module _ (a word lines : ℕ) (c : Chip) where
-  written-trigger : (r o s f l w : Bool) → marks (cond o (triggerBy (fate s f l w) r (lineOf lines) word c) (replied Lines c) .number) ≡ writeRows true (false ∷ false ∷ false ∷ true ∷ true ∷ false ∷ []) o s f l w
+module _ (a bits lines : ℕ) (c : Chip) where
+  written-trigger : (r o s f l w : Bool) → marks (cond o (triggerBy (fate s f l w) r (lineOf lines) bits c) (replied Lines c) .number) ≡ writeRows true (false ∷ false ∷ false ∷ true ∷ true ∷ false ∷ []) o s f l w
   unfolding triggerBy
   written-trigger r false s f l w = refl
   written-trigger r true false f l w = refl
@@ -108,25 +108,25 @@ module _ (a word lines : ℕ) (c : Chip) where
   written-trigger r true true true true true = refl
   written-trigger r true true true true false = refl
 
-  written : marks (writeAt (placeOf a) word lines c .number) ≡ writeRows true (tests a) (oneLine lines) (c .control .sampling) (passes c a) (short c a) (c .control .writewait)
+  written : marks (writeAt (placeOf a) bits lines c .number) ≡ writeRows true (tests a) (oneLine lines) (c .control .sampling) (passes c a) (short c a) (c .control .writewait)
   unfolding writeAt trigger placeOf registerOf
   written = go (ltb 127 a) refl (triggering a) refl
     where
       by : List Bool → List Bool
       by t = writeRows true t (oneLine lines) (c .control .sampling) (passes c a) (short c a) (c .control .writewait)
 
-      kind : (r : Bool) → marks (writeAt (Trigger r (a % 16)) word lines c .number) ≡ writeRows true (false ∷ false ∷ false ∷ true ∷ true ∷ false ∷ []) (oneLine lines) (c .control .sampling) (passes c a) (lacksRoom r (c .queue)) (c .control .writewait)
+      kind : (r : Bool) → marks (writeAt (Trigger r (a % 16)) bits lines c .number) ≡ writeRows true (false ∷ false ∷ false ∷ true ∷ true ∷ false ∷ []) (oneLine lines) (c .control .sampling) (passes c a) (lacksRoom r (c .queue)) (c .control .writewait)
       kind r = written-trigger r (oneLine lines) (c .control .sampling) (passes c a) (lacksRoom r (c .queue)) (c .control .writewait)
 
-      go : (h : Bool) → ltb 127 a ≡ h → (t : Bool) → triggering a ≡ t → marks (writeAt (placeOf a) word lines c .number) ≡ by (tests a)
+      go : (h : Bool) → ltb 127 a ≡ h → (t : Bool) → triggering a ≡ t → marks (writeAt (placeOf a) bits lines c .number) ≡ by (tests a)
       go true p t q =
-          ap (λ (x : Place). marks (writeAt x word lines c .number)) (place-beyond a (ltb-true 127 a p))
+          ap (λ (x : Place). marks (writeAt x bits lines c .number)) (place-beyond a (ltb-true 127 a p))
           ∙ sym (ap by (tests-beyond a (ltb-true 127 a p)))
       go false p true q =
-          ap (λ (x : Place). marks (writeAt x word lines c .number)) (place-trigger a q) ∙ kind (leb 112 a)
+          ap (λ (x : Place). marks (writeAt x bits lines c .number)) (place-trigger a q) ∙ kind (leb 112 a)
           ∙ sym (ap by (tests-trigger a (omega (arith, ltb-false 127 a p)) q))
       go false p false q =
-          same-eq _ _ (or-rest (triggering a) _ (upTo-at 128 (λ b. triggering b || same (marks (writeAt (placeOf b) word lines c .number)) (writeRows true (tests b) (oneLine lines) (c .control .sampling) (passes c b) (short c b) (c .control .writewait))) refl a (omega (arith, ltb-false 127 a p))) q)
+          same-eq _ _ (or-rest (triggering a) _ (upTo-at 128 (λ b. triggering b || same (marks (writeAt (placeOf b) bits lines c .number)) (writeRows true (tests b) (oneLine lines) (c .control .sampling) (passes c b) (short c b) (c .control .writewait))) refl a (omega (arith, ltb-false 127 a p))) q)
 
 module _ (a : ℕ) (c : Chip) where
   counted : (b w : Bool) (x y z : Chip) (v : ℕ) → marks (cond b (cond w (replied Wait x) (replied Busy y)) (done v z) .number) ≡ readRows true (false ∷ false ∷ false ∷ false ∷ false ∷ true ∷ []) b w
@@ -177,10 +177,10 @@ marks-sent false n c d v = refl
 all-rows : (op : Operation) (c : Chip) → marks (step op c .number) ≡ rows op c
 unfolding write read timestampTicks nodeTicks externalEvents send sendInto
 all-rows opReset c = marks-reset (inside c)
-all-rows (opWrite a word lines) c =
-    marks-guarded (inside c) c (writeAt (placeOf a) word lines c)
+all-rows (opWrite a bits lines) c =
+    marks-guarded (inside c) c (writeAt (placeOf a) bits lines c)
     (λ i. writeRows i (tests a) (oneLine lines) (c .control .sampling) (passes c a) (short c a) (c .control .writewait))
-    (written a word lines c) refl
+    (written a bits lines c) refl
     ∙ ap₂ (λ (o l : Bool). writeRows (inside c) (tests a) o (c .control .sampling) (passes c a) l (c .control .writewait)) (one-line lines) (rows-room c a)
 all-rows (opRead a) c =
     marks-guarded (inside c) c (readAt (placeOf a) c) (λ i. readRows i (tests a) (busy (c .queue)) (c .control .readwait)) (seen a c) refl

@@ -1,5 +1,5 @@
 -- A buffer send does what that many single sends do, and writes the words that they give: along the words sent. Assumes nothing.
-use Prim.Native.Nat.{ℕ, zero, suc, _≤_, _<_}
+use Prim.Native.Nat.{ℕ, zero, suc, _≤_, _<_, zero-le}
 use native.Mathlib.Nat.{le-of-suc-le-suc, not-suc-le-zero}
 use mathlib.Core.Path.{_≡_, refl, sym, ap, ap₂, _∙_, subst}
 use mathlib.Core.Bool.{Bool, true, false, cond}
@@ -16,9 +16,9 @@ use Rattle.chip.specs.Operation.{opFill, opSend, step}
 use Rattle.chip.specs.Repeat.{given, repeat}
 use Rattle.chip.specs.Reply.{Told}
 use Rattle.chip.specs.declared.chip.Chip.{Chip}
-use Rattle.chip.specs.declared.reply.Reply.the-variants.{NoWord}
+use Rattle.chip.specs.declared.reply.Reply.the-variants.{NoWord, Outside}
 use Rattle.chip.proofs.Bounds.{keeps-inside}
-use Rattle.chip.proofs.ChipLaws.{guard-in}
+use Rattle.chip.proofs.ChipLaws.{guard-in, guard-out}
 
 -- ---- one send
 
@@ -93,17 +93,37 @@ module _ (m : ℕ) (c : Chip) where
   fill-count : inside c ≡ true → step (opFill m) c .value ≡ length (sendWords m (c .bank .shadows) (c .queue))
   fill-count h = ap (λ (a : Told). a .value) (fill-answer h)
 
+  -- outside the bounds no word is sent
+  fill-outside : inside c ≡ false → step (opFill m) c ≡ replied Outside c
+  unfolding sendInto
+  fill-outside h = sym (guard-out c _ h)
+
+  -- what holds of the count inside the bounds and of 0 holds of the count
+  by-count : (P : ℕ → Type 0) → (inside c ≡ true → P (step (opFill m) c .value)) → P 0 → P (step (opFill m) c .value)
+  by-count P p z = go (inside c) refl
+    where
+      go : (b : Bool) → inside c ≡ b → P (step (opFill m) c .value)
+      go true h = p h
+      go false h = subst P (sym (ap (λ (a : Told). a .value) (fill-outside h))) z
+
   -- "it returns how many, and does what that many single sends do"
-  pub fill-single : inside c ≡ true → step (opFill m) c ≡ done (step (opFill m) c .value) (repeat (step (opFill m) c .value) opSend c)
-  fill-single h =
-      let n : ℕ = length (sendWords m (c .bank .shadows) (c .queue)) in
-      let chip : withQueue (sendQueue m (c .queue)) c ≡ repeat n opSend c =
-      ap (λ (q : Queue). withQueue q c) (sym (words-queue (c .bank .shadows) m (c .queue))) ∙ sym (repeat-sends n c h) in
-      fill-answer h ∙ ap (done n) chip ∙ ap (λ (k : ℕ). done k (repeat k opSend c)) (sym (fill-count h))
+  pub fill-single : step (opFill m) c ≡ record { chip = repeat (step (opFill m) c .value) opSend c; number = cond (inside c) 0 15; value = step (opFill m) c .value }
+  unfolding repeat
+  fill-single = go (inside c) refl
+    where
+      go : (b : Bool) → inside c ≡ b → step (opFill m) c ≡ record { chip = repeat (step (opFill m) c .value) opSend c; number = cond b 0 15; value = step (opFill m) c .value }
+      go true h =
+          let n : ℕ = length (sendWords m (c .bank .shadows) (c .queue)) in
+          let chip : withQueue (sendQueue m (c .queue)) c ≡ repeat n opSend c =
+          ap (λ (q : Queue). withQueue q c) (sym (words-queue (c .bank .shadows) m (c .queue))) ∙ sym (repeat-sends n c h) in
+          fill-answer h ∙ ap (done n) chip ∙ ap (λ (k : ℕ). done k (repeat k opSend c)) (sym (fill-count h))
+      go false h =
+          fill-outside h
+          ∙ ap (λ (k : ℕ). record { chip = repeat k opSend c; number = 15; value = k }) (sym (ap (λ (a : Told). a .value) (fill-outside h)))
 
   -- "as many words as it has places"
-  pub fill-most : inside c ≡ true → step (opFill m) c .value ≤ m
-  fill-most h = subst (λ (n : ℕ). n ≤ m) (sym (fill-count h)) (words-most (c .bank .shadows) m (c .queue))
+  pub fill-most : step (opFill m) c .value ≤ m
+  fill-most = by-count (λ n. n ≤ m) (λ h. subst (λ (n : ℕ). n ≤ m) (sym (fill-count h)) (words-most (c .bank .shadows) m (c .queue))) zero-le
 
   -- "or as are left"
   pub fill-all : inside c ≡ true → step (opFill m) c .value < m → step (opFill m) c .chip .queue .held ≡ 0
@@ -112,8 +132,10 @@ module _ (m : ℕ) (c : Chip) where
       ∙ words-all (c .bank .shadows) m (c .queue) (subst (λ (n : ℕ). n < m) (fill-count h) p)
 
   -- so each of that many single sends replies 0, and where there is more room the next would reply 5
-  pub fill-done : inside c ≡ true → (k : ℕ) → k < step (opFill m) c .value → step opSend (repeat k opSend c) .number ≡ 0
-  fill-done h k p = send-done m k c h (subst (λ (n : ℕ). k < n) (fill-count h) p)
+  pub fill-done : (k : ℕ) → k < step (opFill m) c .value → step opSend (repeat k opSend c) .number ≡ 0
+  fill-done k =
+      by-count (λ n. k < n → step opSend (repeat k opSend c) .number ≡ 0) (λ h p. send-done m k c h (subst (λ (n : ℕ). k < n) (fill-count h) p))
+      (λ p. absurd (not-suc-le-zero p))
 
   pub fill-end : inside c ≡ true → step (opFill m) c .value < m → step opSend (step (opFill m) c .chip) .number ≡ 5
   fill-end h p = ap (λ (a : Told). a .number) (send-empty (step (opFill m) c .chip) (keeps-inside (opFill m) c h) (fill-all h p))
@@ -125,13 +147,18 @@ module _ (m : ℕ) (c : Chip) where
       fill-answer h ∙ ap₂ (λ (ws : List ℕ) (q : Queue). done (length ws) (withQueue q c)) (none .0) (none .1)
 
 -- "the rest of the buffer untouched": the words are what the single sends give, one after the other
-pub fill-words : (c : Chip) (out : List ℕ) → inside c ≡ true → sentBuffer c out ≡ given (step (opFill (length out)) c .value) opSend c ++ drop (step (opFill (length out)) c .value) out
-unfolding sentBuffer sendBuffer
-fill-words c out h =
-    let ws : List ℕ = sendWords (length out) (c .bank .shadows) (c .queue) in
-    ap (λ (b : Bool). cond b (ws ++ drop (length ws) out) out) h
-    ∙ ap (λ (l : List ℕ). l ++ drop (length ws) out) (sym (given-sends (length out) c h))
-    ∙ ap (λ (n : ℕ). given n opSend c ++ drop n out) (sym (fill-count (length out) c h))
+pub fill-words : (c : Chip) (out : List ℕ) → sentBuffer c out ≡ given (step (opFill (length out)) c .value) opSend c ++ drop (step (opFill (length out)) c .value) out
+unfolding sentBuffer sendBuffer given
+fill-words c out = go (inside c) refl
+  where
+    ws : List ℕ
+    ws = sendWords (length out) (c .bank .shadows) (c .queue)
+
+    go : (b : Bool) → inside c ≡ b → cond b (ws ++ drop (length ws) out) out ≡ given (step (opFill (length out)) c .value) opSend c ++ drop (step (opFill (length out)) c .value) out
+    go true h =
+        ap (λ (l : List ℕ). l ++ drop (length ws) out) (sym (given-sends (length out) c h))
+        ∙ ap (λ (n : ℕ). given n opSend c ++ drop n out) (sym (fill-count (length out) c h))
+    go false h = ap (λ (n : ℕ). given n opSend c ++ drop n out) (sym (ap (λ (a : Told). a .value) (fill-outside (length out) c h)))
 
 -- "With 15 a lent buffer is untouched"
 pub buffer-outside : (c : Chip) (out : List ℕ) → inside c ≡ false → sentBuffer c out ≡ out

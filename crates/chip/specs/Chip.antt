@@ -5,8 +5,8 @@ use mathlib.Core.List.{List}
 use lib.Count.{onesIn, trailingZeros}
 use lib.Dec.{ltb, eqb}
 use lib.ListN.{getD, set, replicate}
-use Rattle.counters.specs.Bank.{bit, cleared, copied}
-use Rattle.counters.specs.Due.{disabling, enabling, fired, selecting, selection, signalled, slowEvents, ticked, ticking}
+use Rattle.counters.specs.Bank.{bit, cleared, copied, zeroBank}
+use Rattle.counters.specs.Due.{disabling, enabling, fired, selecting, selection, signalled, slowEvents, ticked, ticking, zeroSwitches}
 use Rattle.counters.specs.declared.bank.Bank.{Bank}
 use Rattle.counters.specs.declared.switches.Switches.{Switches}
 use Rattle.counters.specs.declared.switches.Kind.the-variants.{Slow, Node}
@@ -52,10 +52,10 @@ fresh =
     record {
       stamp = 0;
       queue = emptyQueue;
-      bank = record { values = replicate 16 0; shadows = replicate 16 0 };
+      bank = zeroBank;
       sources = replicate 8 0;
       control = noControl;
-      switches = record { enabled = 0; low = 0; high = 0; phase = 0 };
+      switches = zeroSwitches;
     }
 
 -- "Everything becomes as after a hardware reset except the Timestamp"
@@ -103,9 +103,9 @@ headerOf line resource lost = line + 8 * one resource + 16 * one lost
 -- "A taken sample fixes its fields at the trigger": "Timestamp low 40 bits", "user data low 48 bits"; "The Source Address is that
 -- line's register"
 abbrev pub sampleNow : Bool → ℕ → ℕ → Chip → Held
-sampleNow resource line word c =
+sampleNow resource line bits c =
     record {
-      user = word % 2 ^ 48;
+      user = bits % 2 ^ 48;
       stamp = c .stamp % 2 ^ 40;
       source = getD (c .sources) line 0;
       header = headerOf line resource (c .control .lost);
@@ -113,10 +113,10 @@ sampleNow resource line word c =
 
 -- "a Resource trigger also copies all counters to the shadows. Then the lost mark is cleared"
 abbrev pub takeSample : Bool → ℕ → ℕ → Chip → Chip
-takeSample resource line word c =
+takeSample resource line bits c =
     record {
       stamp = c .stamp;
-      queue = pushed (sampleNow resource line word c) (c .queue);
+      queue = pushed (sampleNow resource line bits c) (c .queue);
       bank = cond resource (copied (c .bank)) (c .bank);
       sources = c .sources;
       control = taken (c .control);
@@ -125,12 +125,12 @@ takeSample resource line word c =
 
 -- the table's rows 6, 7, 8 ("overrun rules"), 10 ("Wait Counter + 1") and 0 ("sample taken")
 unfoldable pub triggerBy : Fate → Bool → ℕ → ℕ → Chip → Told
-triggerBy isOff resource line word c = replied Off c
-triggerBy isFiltered resource line word c = replied Filtered c
-triggerBy isLost resource line word c =
+triggerBy isOff resource line bits c = replied Off c
+triggerBy isFiltered resource line bits c = replied Filtered c
+triggerBy isLost resource line bits c =
     replied Lost (withControl (overran (full (c .queue)) (blocked resource (c .queue)) (c .control)) c)
-triggerBy isTold resource line word c = replied Wait (withControl (waited (c .control)) c)
-triggerBy isTaken resource line word c = done 0 (takeSample resource line word c)
+triggerBy isTold resource line bits c = replied Wait (withControl (waited (c .control)) c)
+triggerBy isTaken resource line bits c = done 0 (takeSample resource line bits c)
 
 -- by sampling, the level's bit of the Filter, room and write wait
 abbrev pub fateOf : Bool → ℕ → Chip → Fate
@@ -139,27 +139,27 @@ fateOf resource level c =
 
 -- "4 trigger without exactly one active processor line", before 6, 7, 8 or 10
 unfoldable pub trigger : Bool → ℕ → ℕ → ℕ → Chip → Told
-trigger resource level word lines c =
-    cond (oneLine lines) (triggerBy (fateOf resource level c) resource (lineOf lines) word c) (replied Lines c)
+trigger resource level bits lines c =
+    cond (oneLine lines) (triggerBy (fateOf resource level c) resource (lineOf lines) bits c) (replied Lines c)
 
 -- ---- writes and reads, by "Address map", its columns "Write" and "Read"; reads of counters by "Counters"
 
 unfoldable pub writeAt : Place → ℕ → ℕ → Chip → Told
-writeAt Beyond word lines c = replied TooHigh c
-writeAt Nowhere word lines c = replied Nothing c
-writeAt Reset word lines c = done 0 (softReset c)
-writeAt Csr word lines c = done 0 (withControl (configured word (c .control)) c)
-writeAt Timestamp word lines c = replied Forbidden c
-writeAt Filter word lines c = done 0 (withControl (filtering word (c .control)) c)
-writeAt Waits word lines c = done 0 (withControl (waitsCleared (c .control)) c)
-writeAt Overruns word lines c = done 0 (withControl (overrunsCleared (c .control)) c)
-writeAt Mux word lines c = done 0 (withSwitches (selecting word (c .switches)) c)
-writeAt Clear word lines c = done 0 (withBank (cleared (word % 2 ^ 16) (c .bank)) c)
-writeAt Enable word lines c = done 0 (withSwitches (enabling word (c .switches)) c)
-writeAt Disable word lines c = done 0 (withSwitches (disabling word (c .switches)) c)
-writeAt (Source i) word lines c = done 0 (withSources (set (c .sources) i (word % 2 ^ 32)) c)
-writeAt (Counter i) word lines c = done 0 (withBank (fired i (c .switches) (c .bank)) c)
-writeAt (Trigger resource level) word lines c = trigger resource level word lines c
+writeAt Beyond bits lines c = replied TooHigh c
+writeAt Nowhere bits lines c = replied Nothing c
+writeAt Reset bits lines c = done 0 (softReset c)
+writeAt Csr bits lines c = done 0 (withControl (configured bits (c .control)) c)
+writeAt Timestamp bits lines c = replied Forbidden c
+writeAt Filter bits lines c = done 0 (withControl (filtering bits (c .control)) c)
+writeAt Waits bits lines c = done 0 (withControl (waitsCleared (c .control)) c)
+writeAt Overruns bits lines c = done 0 (withControl (overrunsCleared (c .control)) c)
+writeAt Mux bits lines c = done 0 (withSwitches (selecting bits (c .switches)) c)
+writeAt Clear bits lines c = done 0 (withBank (cleared (bits % 2 ^ 16) (c .bank)) c)
+writeAt Enable bits lines c = done 0 (withSwitches (enabling bits (c .switches)) c)
+writeAt Disable bits lines c = done 0 (withSwitches (disabling bits (c .switches)) c)
+writeAt (Source i) bits lines c = done 0 (withSources (set (c .sources) i (bits % 2 ^ 32)) c)
+writeAt (Counter i) bits lines c = done 0 (withBank (fired i (c .switches) (c .bank)) c)
+writeAt (Trigger resource level) bits lines c = trigger resource level bits lines c
 
 -- "A counter read with the shadows free copies all sixteen to the shadows and returns the chosen one .. With the shadows busy: reply
 -- 10 if read wait is set, otherwise 11"
@@ -196,7 +196,7 @@ hardReset c = done 0 fresh
 
 -- "Write: address, 64-bit data, 8 processor lines. Read: address"
 unfoldable pub write : ℕ → ℕ → ℕ → Chip → Told
-write address word lines c = guarded c (writeAt (placeOf address) word lines c)
+write address bits lines c = guarded c (writeAt (placeOf address) bits lines c)
 
 unfoldable pub read : ℕ → Chip → Told
 read address c = guarded c (readAt (placeOf address) c)

@@ -52,7 +52,7 @@ oneActive lines = lineAlone (lines % 256)
 -- "any operation but hardware reset"
 abbrev pub checked : Operation → Bool
 checked opReset = false
-checked (opWrite address word lines) = true
+checked (opWrite address bits lines) = true
 checked (opRead address) = true
 checked (opTicks k) = true
 checked (opNodes k) = true
@@ -63,7 +63,7 @@ checked (opFill room) = true
 -- a write whose address and lines pass the first test, a read whose address passes the second, or a single send under the third
 abbrev pub case : (ℕ → ℕ → Bool) → (ℕ → Bool) → Bool → Operation → Bool
 case w r s opReset = false
-case w r s (opWrite address word lines) = w address lines
+case w r s (opWrite address bits lines) = w address lines
 case w r s (opRead address) = r address
 case w r s (opTicks k) = false
 case w r s (opNodes k) = false

@@ -37,6 +37,9 @@ pub fn number_of(reply: Reply) -> u64
     }
 }
 
+// Bit 63 alone.
+const TWO_63: u64 = 1 << 63;
+
 // Document 01's value of a reply that reads, sends and writes nothing.
 pub fn value_of(reply: Reply) -> u64
     ensures { λ r. ⌜ r ≡ replyValue reply ⌝ }
@@ -52,7 +55,7 @@ pub fn value_of(reply: Reply) -> u64
         Reply::Filtered => 0,
         Reply::Lost => 0,
         Reply::Wait => 0,
-        Reply::Busy => 9223372036854775808,
+        Reply::Busy => TWO_63,
         Reply::Outside => 0,
     }
 }

@@ -5,7 +5,7 @@ use mathlib.Core.List.{List, [], _∷_}
 use lib.Dec.{eqb}
 use lib.ListN.{getD, length}
 use Rattle.samples.specs.Layout.{firstChip, sampleBytes, sampleWords}
-use Rattle.samples.specs.Read.{answerNumber, readPart}
+use Rattle.samples.specs.Read.{readPart}
 use Rattle.samples.specs.declared.sample.Sample.{Sample}
 use Rattle.chip.specs.Chip.{fresh}
 use Rattle.chip.specs.Operation.{Operation, step}
@@ -43,7 +43,7 @@ holds (script ls) = runs ls fresh
 holds (bytesAre s bytes last) =
     let words = sampleWords firstChip s in
     sameNumbers (sampleBytes firstChip s) bytes && eqb (getD words (length words - 1) 0) last
-holds (readerSays words n) = eqb (answerNumber (readPart firstChip words .answer)) n
+holds (readerSays words n) = eqb (readPart firstChip words .number) n
 
 -- and of a table
 unfoldable pub allHold : List Row → Bool

@@ -9,9 +9,8 @@ use lib.ListN.{length, getD, drop, replicate}
 use lib.Seq.{drop-cons}
 use borrow.Author.Tests.{lt-ltb, le-ltb, le-leb, lt-leb}
 use Rattle.samples.specs.Layout.{Widths, firstChip, counterWidths, resource, sampleLength, sampleWords}
-use Rattle.samples.specs.Write.{within, allZero, writable, writeAnswer, writeBuffer}
+use Rattle.samples.specs.Write.{allZero, row, within, writable, writeAnswer, writeBuffer}
 use Rattle.samples.specs.declared.sample.Sample.{Sample}
-use Rattle.samples.specs.declared.writer.Written.the-variants.{Words, Unfit, Short}
 
 -- what is left from a place on has its first number there
 pub zero-step : (xs : List ℕ) (i : ℕ) → i < length xs → allZero (drop i xs) ≡ eqb (getD xs i 0) 0 && allZero (drop (suc i) xs)
@@ -48,14 +47,14 @@ module _ (s : Sample) where
 
 -- the writer's answer and buffer, case by case
 module _ (w : Widths) (s : Sample) (out : List ℕ) (n : ℕ) (size : n ≡ sampleLength w (resource (s .header))) where
-  pub wrote : writable w s ≡ true → n ≤ length out → (Words n ≡ writeAnswer w s (length out)) × (sampleWords w s ++ drop n out ≡ writeBuffer w s out)
+  pub wrote : writable w s ≡ true → n ≤ length out → (row 0 n ≡ writeAnswer w s (length out)) × (sampleWords w s ++ drop n out ≡ writeBuffer w s out)
   unfolding writeAnswer writeBuffer
   wrote fit room = rw (fit, ← size, le-leb n (length out) room) (refl, refl)
 
-  pub wrote-short : writable w s ≡ true → length out < n → (Short ≡ writeAnswer w s (length out)) × (out ≡ writeBuffer w s out)
+  pub wrote-short : writable w s ≡ true → length out < n → (row 18 0 ≡ writeAnswer w s (length out)) × (out ≡ writeBuffer w s out)
   unfolding writeAnswer writeBuffer
   wrote-short fit room = rw (fit, ← size, lt-leb n (length out) room) (refl, refl)
 
-pub wrote-unfit : (w : Widths) (s : Sample) (out : List ℕ) → writable w s ≡ false → (Unfit ≡ writeAnswer w s (length out)) × (out ≡ writeBuffer w s out)
+pub wrote-unfit : (w : Widths) (s : Sample) (out : List ℕ) → writable w s ≡ false → (row 17 0 ≡ writeAnswer w s (length out)) × (out ≡ writeBuffer w s out)
 unfolding writeAnswer writeBuffer
 wrote-unfit w s out fault = rw fault (refl, refl)
