@@ -11,7 +11,7 @@ use lib.Count.{onesIn}
 use lib.Dec.{eqb, leb, ltb}
 use lib.ListN.{getD, length, length-map, take, List·getD-map}
 use lib.Seq.{ext-getD}
-use borrow.Author.Tests.{leb-true, leb-false, le-leb, ltb-true, ltb-false, eq-eqb, eqb-true, ne-eqb}
+use borrow.Author.Tests.{eq-eqb, eqb-false, eqb-true, le-leb, leb-true, lt-leb, ltb-false, ltb-true, ne-eqb}
 use Rattle.words.specs.Bytes.{byteAt}
 use Rattle.words.specs.Word.{markBit, oddOnes, wordOf}
 use Rattle.words.proofs.WordLaws.{word-odd, word-one, word-top, words-bytes}
@@ -26,11 +26,11 @@ use Rattle.samples.proofs.Theorems.{accepted-words, accepted-writable}
 
 -- bit 3 is set exactly where the low four bits are at least 8
 resource-number : (h : ℕ) → resource h ≡ leb 8 (h % 16)
-resource-number h = go (leb 8 (h % 16)) refl
+resource-number h = go (resource h) refl
   where
-    go : (t : Bool) → leb 8 (h % 16) ≡ t → resource h ≡ leb 8 (h % 16)
-    go true e = eq-eqb (h / 8 % 2) 1 (omega (arith, leb-true 8 (h % 16) e)) ∙ sym e
-    go false e = ne-eqb (h / 8 % 2) 1 (λ q. omega (arith, leb-false 8 (h % 16) e)) ∙ sym e
+    go : (t : Bool) → resource h ≡ t → resource h ≡ leb 8 (h % 16)
+    go true e = e ∙ sym (le-leb 8 (h % 16) (omega (arith, eqb-true)))
+    go false e = e ∙ sym (lt-leb 8 (h % 16) (omega (arith, eqb-false)))
 
 -- so a sample's length is one more than its last place
 length-number : (h : ℕ) → sampleLength firstChip (resource h) ≡ lastPlace h + 1
