@@ -107,7 +107,7 @@ mask-due Node s i h p q =
     ∙ ap (λ (b : Bool). bit (s .enabled) i && b) (bit-and (s .high) (s .low) i)
 
 -- the field by number: two bits select a kind where they are its number
-selects-field : (k : Kind) (a b : ℕ) → a < 2 → b < 2 → selects k (eqb a 1) (eqb b 1) ≡ eqb (2 * a + b) (fieldOf k)
+pub selects-field : (k : Kind) (a b : ℕ) → a < 2 → b < 2 → selects k (eqb a 1) (eqb b 1) ≡ eqb (2 * a + b) (fieldOf k)
 selects-field Slow = both-zero-one (λ (a b : ℕ). selects Slow (eqb a 1) (eqb b 1) ≡ eqb (2 * a + b) 0) refl refl refl refl
 selects-field External = both-zero-one (λ (a b : ℕ). selects External (eqb a 1) (eqb b 1) ≡ eqb (2 * a + b) 1) refl refl refl refl
 selects-field Software = both-zero-one (λ (a b : ℕ). selects Software (eqb a 1) (eqb b 1) ≡ eqb (2 * a + b) 2) refl refl refl refl

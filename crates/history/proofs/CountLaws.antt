@@ -10,10 +10,9 @@ use lib.Dec.{eqb}
 use lib.ListN.{length, getD, length-map, List·getD-map}
 use borrow.Author.Tests.{eqb-true, eqb-false}
 use Rattle.counters.specs.Bank.{bit, each, grown}
-use Rattle.counters.specs.Due.{selects}
+use Rattle.counters.specs.Due.{fieldOf, selects}
 use Rattle.counters.specs.declared.switches.Kind.{Kind}
-use Rattle.counters.specs.declared.switches.Kind.the-variants.{Slow, External, Software, Node}
-use Rattle.counters.proofs.BitLaws.{half-bit}
+use Rattle.counters.proofs.BitLaws.{half-bit, selects-field}
 use Rattle.counters.proofs.EachLaws.{each-is}
 use Rattle.history.specs.Ledger.{Counter, eachFrom, noCounter, packed}
 
@@ -123,30 +122,12 @@ values-each g f ks p =
 pub value-at : (ks : List Counter) (i : ℕ) → getD (map valueOf ks) i 0 ≡ valueOf (getD ks i noCounter)
 value-at ks i = List·getD-map valueOf ks i noCounter
 
--- "00 slow clock, 01 external, 10 software, 11 node clock": the chip's kinds and the ledger's numbers
-abbrev pub kindNumber : Kind → ℕ
-kindNumber Slow = 0
-kindNumber External = 1
-kindNumber Software = 2
-kindNumber Node = 3
-
-pub selects-field : (kind : Kind) (high low : Bool) → selects kind high low ≡ eqb (cond high 2 0 + cond low 1 0) (kindNumber kind)
-selects-field Slow true true = refl
-selects-field Slow true false = refl
-selects-field Slow false true = refl
-selects-field Slow false false = refl
-selects-field External true true = refl
-selects-field External true false = refl
-selects-field External false true = refl
-selects-field External false false = refl
-selects-field Software true true = refl
-selects-field Software true false = refl
-selects-field Software false true = refl
-selects-field Software false false = refl
-selects-field Node true true = refl
-selects-field Node true false = refl
-selects-field Node false true = refl
-selects-field Node false false = refl
+-- the chip's kinds and the ledger's numbers
+pub selects-number : (kind : Kind) (high low : Bool) → selects kind high low ≡ eqb (cond high 2 0 + cond low 1 0) (fieldOf kind)
+selects-number kind true true = selects-field kind 1 1 (omega arith) (omega arith)
+selects-number kind true false = selects-field kind 1 0 (omega arith) (omega arith)
+selects-number kind false true = selects-field kind 0 1 (omega arith) (omega arith)
+selects-number kind false false = selects-field kind 0 0 (omega arith) (omega arith)
 
 -- n events that count under a test
 pub counted-value : (a b : Bool) (n : ℕ) (k : Counter) → cond (a && b) (grown (valueOf k) n) (valueOf k) ≡ valueOf (cond a (cond b (record { on = k .on; high = k .high; low = k .low; events = k .events + n }) k) k)

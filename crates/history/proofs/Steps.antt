@@ -16,6 +16,7 @@ use Rattle.samples.specs.declared.sample.Sample.{Sample}
 use Rattle.counters.specs.Bank.{bit, copied, counting, grown}
 use Rattle.counters.specs.Bank.{each as Bank·each}
 use Rattle.counters.specs.Due.{disabling, due, enabling, selecting, selects}
+use Rattle.counters.specs.Due.{fieldOf as Kind·fieldOf}
 use Rattle.counters.specs.declared.switches.Kind.{Kind}
 use Rattle.counters.specs.declared.switches.Kind.the-variants.{Slow, External, Software, Node}
 use Rattle.counters.specs.declared.switches.Switches.{Switches}
@@ -37,7 +38,7 @@ use Rattle.history.specs.Ledger.{Counter, Entry, Ledger, byRange, cleare
 use Rattle.history.specs.Stream.{anyHeld, isFull, totalOf, wordsOfAll}
 use Rattle.history.proofs.Addresses.{by-place, range-beyond, range-counter, range-source, range-trigger, range-vacant}
 use Rattle.history.proofs.Agrees.{Agrees, Good, Kept, chipFor, controlOf, kept-guarded, switchesOf}
-use Rattle.history.proofs.CountLaws.{counted-value, each-length, each-same, kindNumber, packed-bit, packed-each, packed-lt, packed-same, phase-same, selects-field, slow-same, under, value-at, valueOf, values-each}
+use Rattle.history.proofs.CountLaws.{counted-value, each-length, each-same, packed-bit, packed-each, packed-lt, packed-same, phase-same, selects-number, slow-same, under, value-at, valueOf, values-each}
 use Rattle.history.proofs.HeldLaws.{Sixteen, words-total}
 use Rattle.history.proofs.HoldsLaws.{Holds, holds-advanced, holds-busy, holds-copied, holds-empty, holds-full, holds-none, holds-some, next-is}
 use Rattle.history.proofs.Triggers.{told, trigger-kept}
@@ -261,14 +262,14 @@ module _ (l : Ledger) (q : Queue) (sh : List ℕ) (g : Good l q sh) where
   -- ---- events: n of a kind, for the counters that a test names
 
   -- "An event counts if the counter is enabled and its field selects that kind"
-  due-same : (kind : Kind) (j : ℕ) → j < 16 → due kind (switchesOf l) j ≡ (getD (l .counters) j noCounter .on && eqb (fieldOf (getD (l .counters) j noCounter)) (kindNumber kind))
+  due-same : (kind : Kind) (j : ℕ) → j < 16 → due kind (switchesOf l) j ≡ (getD (l .counters) j noCounter .on && eqb (fieldOf (getD (l .counters) j noCounter)) (Kind·fieldOf kind))
   due-same kind j h =
       let k : Counter = getD (l .counters) j noCounter in
       (λ i. bit-of (λ m. m .on) j h i && selects kind (bit-of (λ m. m .high) j h i) (bit-of (λ m. m .low) j h i))
-      ∙ ap (λ (b : Bool). k .on && b) (selects-field kind (k .high) (k .low))
+      ∙ ap (λ (b : Bool). k .on && b) (selects-number kind (k .high) (k .low))
 
   happenedBy : Kind → (ℕ → Bool) → ℕ → ℕ → Counter → Counter
-  happenedBy kind t n j k = cond (t j) (counted (kindNumber kind) n k) k
+  happenedBy kind t n j k = cond (t j) (counted (Kind·fieldOf kind) n k) k
 
   -- their counters' numbers
   happened-values : (kind : Kind) (t : ℕ → Bool) (n : ℕ) → Bank·each (λ j v. cond (t j && due kind (switchesOf l) j) (grown v n) v) 0 (map valueOf (l .counters)) ≡ map valueOf (eachFrom 0 (happenedBy kind t n) (l .counters))
@@ -278,12 +279,12 @@ module _ (l : Ledger) (q : Queue) (sh : List ℕ) (g : Good l q sh) where
       (λ j h.
       let k : Counter = getD (l .counters) j noCounter in
       ap (λ (b : Bool). cond (t j && b) (grown (valueOf k) n) (valueOf k)) (due-same kind j (rw (g .counters) at h))
-      ∙ counted-value (t j) (k .on && eqb (fieldOf k) (kindNumber kind)) n k)
+      ∙ counted-value (t j) (k .on && eqb (fieldOf k) (Kind·fieldOf kind)) n k)
 
   -- and nothing else of them
   happened-else : (kind : Kind) (t : ℕ → Bool) (n j : ℕ) (k : Counter) → (happenedBy kind t n j k .on ≡ k .on) × ((happenedBy kind t n j k .high ≡ k .high) × (happenedBy kind t n j k .low ≡ k .low))
   unfolding happenedBy
-  happened-else kind t n j k = go (t j) (k .on && eqb (fieldOf k) (kindNumber kind))
+  happened-else kind t n j k = go (t j) (k .on && eqb (fieldOf k) (Kind·fieldOf kind))
     where
       next : Bool → Bool → Counter
       next a b = cond a (cond b (record { on = k .on; high = k .high; low = k .low; events = k .events + n }) k) k
@@ -293,7 +294,7 @@ module _ (l : Ledger) (q : Queue) (sh : List ℕ) (g : Good l q sh) where
       go true false = (refl, (refl, refl))
       go false b = (refl, (refl, refl))
 
-  happened-kept : (kind : Kind) (t : ℕ → Bool) (n : ℕ) → Kept (tells 0 0 (happened (kindNumber kind) t n l)) (done 0 (withCounted (Bank·each (λ j v. cond (t j && due kind (switchesOf l) j) (grown v n) v) 0 (map valueOf (l .counters))) (switchesOf l)))
+  happened-kept : (kind : Kind) (t : ℕ → Bool) (n : ℕ) → Kept (tells 0 0 (happened (Kind·fieldOf kind) t n l)) (done 0 (withCounted (Bank·each (λ j v. cond (t j && due kind (switchesOf l) j) (grown v n) v) 0 (map valueOf (l .counters))) (switchesOf l)))
   unfolding happenedBy
   happened-kept kind t n = events-kept (happenedBy kind t n) _ (happened-else kind t n) (happened-values kind t n)
 
@@ -460,7 +461,7 @@ module _ (l : Ledger) (q : Queue) (sh : List ℕ) (g : Good l q sh) where
 
   -- ---- ticks
 
-  ticks-kept : (k : ℕ) → Kept (tells 0 0 (withTicks k (happened (kindNumber Slow) (λ i. true) (slowIn (l .ticks) k) l))) (done 0 (afterTicks k (chipFor l q sh)))
+  ticks-kept : (k : ℕ) → Kept (tells 0 0 (withTicks k (happened (Kind·fieldOf Slow) (λ i. true) (slowIn (l .ticks) k) l))) (done 0 (afterTicks k (chipFor l q sh)))
   unfolding happenedBy
   ticks-kept k =
       let n : ℕ = slowIn (l .ticks) k in
