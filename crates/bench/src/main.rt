@@ -34,7 +34,7 @@ fn main() {
     let mut lines = [0u8; 172032];
     let input: &mut [u8] = &mut records;
     let text: &mut [u8] = &mut lines;
-    let shown = show(b"answer value\n", 13);
+    let shown = checked(io::write_all(STDOUT_FILENO, b"answer value\n"));
     let mut turn = Turn {
         chip: Chip::fresh(),
         size: 0,
@@ -168,7 +168,13 @@ fn run_all(chip: Chip, input: &[u8], text: &mut [u8]) -> Block
 fn show(text: &[u8], size: usize) -> bool
     requires { ⌜ size ≤ length (now text) ⌝ }
 {
-    let shown = io::write_all(STDOUT_FILENO, &text[..size]);
+    checked(io::write_all(STDOUT_FILENO, &text[..size]))
+}
+
+// Names a write that failed.
+fn checked(shown: bool) -> bool
+    ensures { λ r. ⌜ r ≡ shown ⌝ }
+{
     if !shown {
         os::fail(b"bench: write");
     }
