@@ -42,7 +42,8 @@ def records(count, seed):
     chance = random.Random(seed)
     out = [record(1, 1, 0, 1), record(1, 4, 0, 0xFFFF)]
     while len(out) < count:
-        out.append(chance.choice((record(1, 96, 1, chance.getrandbits(64)), record(6), record(6), record(3, 0, 0, 7), record(2, 2), record(9))))
+        trigger = record(1, 96, 1, chance.getrandbits(64))
+        out.append(chance.choice((trigger, record(6), record(6), record(3, 0, 0, 7), record(2, 2), record(9))))
     return b"".join(out)
 
 
@@ -145,8 +146,8 @@ def test_errors():
     check(failed("@ </"), (1, b"bench: read: Is a directory\n"), "an input that can't be read")
     check(failed("@ <&-"), (1, b"run-bench: file descriptor 0 is closed\n"), "no standard input")
     check(failed("@ </dev/null >&-"), (1, b"run-bench: file descriptor 1 is closed\n"), "no standard output")
-    status, said = failed("ulimit -f 1; trap '' XFSZ; out=$(mktemp); status=0; head -c 120000 /dev/zero | @ >$out || status=$?; rm $out; exit $status")
-    check((status, said), (1, b"bench: write: File too large\n"), "a file that may grow no more: its text is cut, and that is said")
+    small = "out=$(mktemp); trap 'rm $out' EXIT; trap '' XFSZ; ulimit -f 1; head -c 120000 /dev/zero | @ >$out"
+    check(failed(small), (1, b"bench: write: File too large\n"), "a file that may grow no more: its text is cut, and that is said")
 
 
 def test_signals():
