@@ -21,6 +21,16 @@ selects External high low = not high && low
 selects Software high low = high && not low
 selects Node high low = high && low
 
+-- the same by number, high bit first: the field of each kind, and the field that two numbers have at bits h and l
+abbrev pub fieldOf : Kind → ℕ
+fieldOf Slow = 0
+fieldOf External = 1
+fieldOf Software = 2
+fieldOf Node = 3
+
+abbrev pub fieldAt : ℕ → ℕ → ℕ → ℕ → ℕ
+fieldAt high h low l = 2 * (high / 2 ^ h % 2) + low / 2 ^ l % 2
+
 -- "An event counts if the counter is enabled and its field selects that kind"
 abbrev pub due : Kind → Switches → ℕ → Bool
 due k s i = bit (s .enabled) i && selects k (bit (s .high) i) (bit (s .low) i)
