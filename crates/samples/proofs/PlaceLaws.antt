@@ -11,23 +11,26 @@ use lib.Count.{onesIn}
 use lib.Dec.{eqb, leb, ltb}
 use lib.ListN.{getD, length, length-map, take, List·getD-map}
 use lib.Seq.{ext-getD}
-use borrow.Author.Tests.{leb-true, leb-false, le-leb, ltb-true, ltb-false, eq-eqb, eqb-true, ne-eqb}
+use borrow.Author.Tests.{eq-eqb, eqb-false, eqb-true, le-leb, leb-true, lt-leb, ltb-false, ltb-true, ne-eqb}
 use Rattle.words.specs.Bytes.{byteAt}
 use Rattle.words.specs.Word.{markBit, oddOnes, wordOf}
 use Rattle.words.proofs.WordLaws.{word-odd, word-one, word-top, words-bytes}
 use Rattle.samples.specs.Layout.{counterBytes, fieldWidths, firstChip, resource, sampleBytes, sampleLength, sampleWords, total}
 use Rattle.samples.specs.Places.{Placed, PlacedWords, lastPlace, nthByte}
+use Rattle.samples.specs.Read.{readPart}
 use Rattle.samples.specs.declared.sample.Sample.{Sample}
+use Rattle.samples.proofs.RoundTrip.{sixteen-fit}
 use Rattle.samples.proofs.SampleLaws.{at-field, bytes-below, bytes-length, sample-after, sample-before, sample-word}
 use Rattle.samples.proofs.Spread.{spread-each}
+use Rattle.samples.proofs.Theorems.{accepted-words, accepted-writable}
 
 -- bit 3 is set exactly where the low four bits are at least 8
 resource-number : (h : ℕ) → resource h ≡ leb 8 (h % 16)
-resource-number h = go (leb 8 (h % 16)) refl
+resource-number h = go (resource h) refl
   where
-    go : (t : Bool) → leb 8 (h % 16) ≡ t → resource h ≡ leb 8 (h % 16)
-    go true e = eq-eqb (h / 8 % 2) 1 (omega (arith, leb-true 8 (h % 16) e)) ∙ sym e
-    go false e = ne-eqb (h / 8 % 2) 1 (λ q. omega (arith, leb-false 8 (h % 16) e)) ∙ sym e
+    go : (t : Bool) → resource h ≡ t → resource h ≡ leb 8 (h % 16)
+    go true e = e ∙ sym (le-leb 8 (h % 16) (omega (arith, eqb-true)))
+    go false e = e ∙ sym (lt-leb 8 (h % 16) (omega (arith, eqb-false)))
 
 -- so a sample's length is one more than its last place
 length-number : (h : ℕ) → sampleLength firstChip (resource h) ≡ lastPlace h + 1
@@ -94,6 +97,12 @@ module _ (s : Sample) (sixteen : length (s .counters) ≡ 16) where
         last = word-mark (lastPlace (s .header)) true (omega arith) (eq-eqb (suc (lastPlace (s .header))) (lastPlace (s .header) + 1) (omega arith));
         others = λ p h. word-mark p false (omega arith) (ne-eqb (suc p) (lastPlace (s .header) + 1) (λ q. omega arith));
       }
+
+-- so what the reader accepts, it finds where document 01's numbers put it
+pub accepted-placed : (ws : List ℕ) → readPart firstChip ws .number ≡ 0 → PlacedWords (readPart firstChip ws .sample) (take (readPart firstChip ws .count) ws)
+accepted-placed ws taken =
+    let s : Sample = readPart firstChip ws .sample in
+    subst (PlacedWords s) (sym (accepted-words firstChip ws taken)) (words-placed s (sixteen-fit firstChip s (accepted-writable firstChip ws taken)))
 
 -- the numbers leave one list of bytes
 module _ (s : Sample) (a b : List ℕ) (x : Placed s a) (y : Placed s b) where

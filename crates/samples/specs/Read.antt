@@ -65,7 +65,8 @@ pub record Found : Type 0 where
 abbrev pub nothing : ℕ → Found
 nothing number = record { sample = zeroSample; count = 0; number = number }
 
--- each case's, where a good scan gives this sample and count; its number, which document 01 leaves open, is 0
+-- each case's: "or: 20 the words so far are good but unfinished ..; 21 a word above 1023; 22 parity; 23 header bits 5..7; 24 end mark early
+-- or missing". The number of a sample, which document 01 leaves open, is 0
 abbrev pub foundBy : Verdict → Sample → ℕ → Found
 foundBy Good s n = record { sample = s; count = n; number = 0 }
 foundBy Unfinished s n = nothing 20
@@ -77,10 +78,11 @@ foundBy Mark s n = nothing 24
 abbrev pub verdictNumber : Verdict → ℕ
 verdictNumber v = foundBy v zeroSample 0 .number
 
--- what the reader hands back, so told
+-- what the reader hands back, told so
 abbrev pub found : Reading → Found
 found r = record { sample = r .sample; count = r .count; number = verdictNumber (r .verdict) }
 
+-- a refusal as the reader hands it back
 abbrev pub refusal : Verdict → Reading
 refusal v = record { sample = zeroSample; count = 0; verdict = v }
 

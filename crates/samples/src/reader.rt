@@ -72,13 +72,7 @@ fn refused(verdict: Verdict) -> Reading
     ensures { λ r. ⌜ r ≡ refusal verdict ⌝ }
 {
     Reading {
-        sample: Sample {
-            user: 0,
-            stamp: 0,
-            source: 0,
-            header: 0,
-            counters: [0; 16],
-        },
+        sample: Sample::zero(),
         count: 0,
         verdict,
     }

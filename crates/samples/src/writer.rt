@@ -11,6 +11,11 @@ ghost use lib.ListN.{length, drop};
 ghost use Rattle.samples.specs.Layout.{firstChip, resource, sampleLength, sampleWords};
 ghost use Rattle.samples.specs.Write.{allZero, writable, writeAnswer, writeBuffer, writtenRow};
 
+// The first number above the widths of Timestamp and user data.
+const TWO_40: u64 = 1 << 40;
+
+const TWO_48: u64 = 1 << 48;
+
 // What writing a sample answers.
 pub enum Written {
     // How many words were written.
@@ -44,10 +49,10 @@ pub fn can_write(sample: Sample) -> bool
     if 32 <= sample.header {
         return false;
     }
-    if 1099511627776 <= sample.stamp {
+    if TWO_40 <= sample.stamp {
         return false;
     }
-    if 281474976710656 <= sample.user {
+    if TWO_48 <= sample.user {
         return false;
     }
     if is_resource(sample.header) {
