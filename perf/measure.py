@@ -2,15 +2,20 @@
 """Time bench and twin, both as native code, on a Trace-heavy, a Resource-heavy and a mixed file of records.
 
     perf/measure.py [RECORDS]
+    perf/measure.py kinds [NAME=PROGRAM ..]
 
 RECORDS is the size of each file, 100,000,000 unless given. The two programs run in turn, five times each, and the
 least time of each counts. Beside the times: the time on half the file, the largest memory, and callgrind's
 instructions for each record where valgrind is there. It needs rt, rustc and, on Arm, gcc.
+
+kinds prints a table, as docs/PERFORMANCE.md has it: callgrind's instructions a record for each kind of operation by
+itself, of bench and twin, or of the programs that are named (earlier builds of bench) and the twin. It is repeatable.
 """
 
 import os
 import platform
 import random
+import shutil
 import struct
 import subprocess
 import sys
@@ -18,8 +23,9 @@ import tempfile
 import time
 
 ROOT = os.path.dirname(os.path.dirname(os.path.abspath(__file__)))
-WRITE, READ, TICKS, NODES, EVENTS, SEND = 1, 2, 3, 4, 5, 6
+RESET, WRITE, READ, TICKS, NODES, EVENTS, SEND = range(7)
 RUNS = 5
+KIND_RECORDS = 100_000
 
 
 def record(kind, address=0, lines=0, data=0):
@@ -76,6 +82,60 @@ def mixed(chance):
             yield record(SEND)
 
 
+def kinds():
+    """For each kind of operation its name, what goes before it, and a function that makes its records."""
+    held = record(WRITE, 96, 1) * 8
+    some = lambda chance: chance.getrandbits(48)
+    return (
+        ("hardware reset", b"", lambda chance: record(RESET)),
+        ("software reset", b"", lambda chance: record(WRITE, 0)),
+        ("Source Address write", b"", lambda chance: record(WRITE, 16 + chance.randrange(8), 0, chance.getrandbits(32))),
+        ("Filter write", b"", lambda chance: record(WRITE, 4, 0, 0xFFFF)),
+        ("CSR write", b"", lambda chance: record(WRITE, 1, 0, 1)),
+        ("MUX SEL write", b"", lambda chance: record(WRITE, 8, 0, chance.getrandbits(64))),
+        ("enabling write", b"", lambda chance: record(WRITE, 11, 0, chance.getrandbits(16))),
+        ("clear of a counter", b"", lambda chance: record(WRITE, 10, 0, 1)),
+        ("software event", b"", lambda chance: record(WRITE, 33)),
+        ("lost trigger", held, lambda chance: record(WRITE, 96, 1, some(chance))),
+        ("trigger with no active line", b"", lambda chance: record(WRITE, 96, 0, some(chance))),
+        ("Trace sample, then 16 sends", b"", lambda chance: record(WRITE, 96, 1, some(chance)) + record(SEND) * 16),
+        ("Resource sample, then 80 sends", b"", lambda chance: record(WRITE, 112, 1, some(chance)) + record(SEND) * 80),
+        ("send with nothing held", b"", lambda chance: record(SEND)),
+        ("CSR read", b"", lambda chance: record(READ, 1)),
+        ("Timestamp read", b"", lambda chance: record(READ, 2)),
+        ("counter read", b"", lambda chance: record(READ, 32)),
+        ("read of an address with nothing", b"", lambda chance: record(READ, 3)),
+        ("Timestamp ticks", b"", lambda chance: record(TICKS, 0, 0, chance.randrange(2000))),
+        ("node ticks", b"", lambda chance: record(NODES, 0, 0, chance.randrange(2000))),
+        ("external events", b"", lambda chance: record(EVENTS, 0, 0, chance.getrandbits(16))),
+    )
+
+
+def write_kind(path, before, make):
+    """A file of one kind of operation: settings that let a trigger be lost, odd counters on node clock, all enabled."""
+    chance = random.Random(7)
+    body = bytearray()
+    while len(body) < KIND_RECORDS * 12:
+        body += make(chance)
+    with open(path, "wb") as file:
+        file.write(record(WRITE, 1, 0, 9) + record(WRITE, 4, 0, 0xFFFF) + record(WRITE, 8, 0, 0x0000AAAA0000FFFF) + record(WRITE, 11, 0, 0xFFFF))
+        file.write(before + body[: KIND_RECORDS * 12])
+
+
+def print_kinds(programs, folder):
+    """The table of instructions a record by kind of operation, a column for each program."""
+    if shutil.which("valgrind") is None:
+        print("no table by kind of operation: valgrind is missing (on Debian: apt-get install valgrind)")
+        return
+    print("| Operation | " + " | ".join(name for name, _ in programs) + " |")
+    print("|---" * (len(programs) + 1) + "|")
+    for kind, before, make in kinds():
+        write_kind(f"{folder}/kind", before, make)
+        counts = [instructions(program, f"{folder}/kind", folder) for _, program in programs]
+        each = ["failed" if count is None else f"{count / KIND_RECORDS:.0f}" for count in counts]
+        print(f"| {kind} | " + " | ".join(each) + " |", flush=True)
+
+
 def write_file(path, rounds, records):
     """A file of about so many records: the settings, then two hundred rounds over and over."""
     chance = random.Random(1)
@@ -117,27 +177,53 @@ def memory(program, path):
     return most
 
 
+def processor():
+    """The machine, and the processor's name where the system tells it."""
+    with open("/proc/cpuinfo", encoding="ascii", errors="replace") as file:
+        names = [line.split(":")[1].strip() for line in file if line.startswith("model name")]
+    return f"{platform.machine()}, {names[0] if names else 'no model name'}, {os.cpu_count()} cores"
+
+
+def build_bench(path):
+    subprocess.run([f"{ROOT}/perf/native-build", path], check=True, stdout=sys.stderr)
+    return path
+
+
+def build_twin(path):
+    subprocess.run(["rustc", "--edition", "2021", "-O", "-o", path, f"{ROOT}/twin/main.rs"], check=True)
+    return path
+
+
+def time_files(bench, twin, records, folder):
+    """Times, memory and instructions on the three files."""
+    for name, rounds in (("Trace", trace), ("Resource", resource_samples), ("Mixed", mixed)):
+        path, half, small = f"{folder}/all", f"{folder}/half", f"{folder}/small"
+        count = write_file(path, rounds, records)
+        write_file(half, rounds, records // 2)
+        few = write_file(small, rounds, 1_000_000)
+        times = [(seconds(bench, path), seconds(twin, path)) for _ in range(RUNS)]
+        ours, theirs = (min(column) for column in zip(*times))
+        print(f"{name}: {count} records, bench {ours:.2f} s, twin {theirs:.2f} s, ratio {ours / theirs:.2f}")
+        halved = min(seconds(bench, half) for _ in range(RUNS))
+        print(f"{name}: half of them, bench {halved:.2f} s; memory {memory(bench, half)} KiB for half, {memory(bench, path)} KiB for all")
+        counts = [instructions(program, small, folder) for program in (bench, twin)]
+        if all(counts):
+            each = [number / few for number in counts]
+            print(f"{name}: instructions a record, bench {each[0]:.0f}, twin {each[1]:.0f}, ratio {each[0] / each[1]:.2f}")
+
+
 def main():
-    records = int(sys.argv[1]) if len(sys.argv) > 1 else 100_000_000
-    print(f"machine: {platform.machine()}, {os.cpu_count()} cores")
+    print(f"machine: {processor()}")
     with tempfile.TemporaryDirectory() as folder:
-        bench, twin = f"{folder}/bench", f"{folder}/twin"
-        subprocess.run([f"{ROOT}/perf/native-build", bench], check=True, stdout=sys.stderr)
-        subprocess.run(["rustc", "--edition", "2021", "-O", "-o", twin, f"{ROOT}/twin/main.rs"], check=True)
-        for name, rounds in (("Trace", trace), ("Resource", resource_samples), ("Mixed", mixed)):
-            path, half, small = f"{folder}/all", f"{folder}/half", f"{folder}/small"
-            count = write_file(path, rounds, records)
-            write_file(half, rounds, records // 2)
-            few = write_file(small, rounds, 1_000_000)
-            times = [(seconds(bench, path), seconds(twin, path)) for _ in range(RUNS)]
-            ours, theirs = (min(column) for column in zip(*times))
-            print(f"{name}: {count} records, bench {ours:.2f} s, twin {theirs:.2f} s, ratio {ours / theirs:.2f}")
-            halved = min(seconds(bench, half) for _ in range(RUNS))
-            print(f"{name}: half of them, bench {halved:.2f} s; memory {memory(bench, half)} KiB for half, {memory(bench, path)} KiB for all")
-            counts = [instructions(program, small, folder) for program in (bench, twin)]
-            if all(counts):
-                each = [number / few for number in counts]
-                print(f"{name}: instructions a record, bench {each[0]:.0f}, twin {each[1]:.0f}, ratio {each[0] / each[1]:.2f}")
+        twin = build_twin(f"{folder}/twin")
+        if sys.argv[1:2] == ["kinds"]:
+            named = [tuple(word.split("=", 1)) for word in sys.argv[2:]]
+            named = [(name, os.path.abspath(program)) for name, program in named] or [("bench", build_bench(f"{folder}/bench"))]
+            print_kinds(named + [("twin", twin)], folder)
+            return
+        bench = build_bench(f"{folder}/bench")
+        time_files(bench, twin, int(sys.argv[1]) if len(sys.argv) > 1 else 100_000_000, folder)
+        print_kinds([("bench", bench), ("twin", twin)], folder)
 
 
 main()

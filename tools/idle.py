@@ -58,7 +58,7 @@ VERSIONS = {
             ('crates/chip/specs/Chip.antt', *SENT, 3),
             ('crates/chip/specs/Sent.antt', 'heldSample (c .bank .shadows)', 'heldSample (c .bank .values)'),
             ('crates/chip/proofs/Refusals.antt', *SENT),
-            ('crates/chip/proofs/chip/Chip/send/Proof.antt', *SENT, 2),
+            ('crates/chip/proofs/chip/Chip/send/Proof.antt', *SENT, 3),
             ('crates/chip/proofs/chip/Chip/send_into/Proof.antt', *SENT, 2),
             ('crates/chip/proofs/Sends.antt', *SENT, 33),
             ('crates/chip/proofs/Bounds.antt', *SENT, 2),
@@ -69,7 +69,7 @@ VERSIONS = {
         'the first trigger is honoured, the later ones are only answered "taken"', [
             ('crates/queue/src/queue.rt', 'if held < 8 {', 'if held < 1 {'),
             ('crates/queue/specs/Queue.antt', 'pushed h q = cond (ltb (q .held) 8)', 'pushed h q = cond (ltb (q .held) 1)'),
-            ('crates/queue/proofs/queue/Queue/pushed/Proof.antt', '.args .self .held) 8 (search needs))\n\nreturns-2', '.args .self .held) 1 (search needs))\n\nreturns-2'),
+            ('crates/queue/proofs/queue/Queue/pushed/Proof.antt', 'rw (lt-ltb (c .before .before .before .args .self .held) 8', 'rw (lt-ltb (c .before .before .before .args .self .held) 1'),
             ('crates/queue/proofs/queue/Queue/pushed/Proof.antt', 'rw (le-ltb (c .before .args .self .held) 8', 'rw (le-ltb (c .before .args .self .held) 1'),
             ('crates/queue/proofs/BoundLaws.antt', 'push-bounds h q e = go (ltb (q .held) 8) refl', 'push-bounds h q e = go (ltb (q .held) 1) refl'),
             ('crates/queue/proofs/BoundLaws.antt', 'go : (b : Bool) → ltb (q .held) 8 ≡ b → insideQueue (cond b more q)', 'go : (b : Bool) → ltb (q .held) 1 ≡ b → insideQueue (cond b more q)'),

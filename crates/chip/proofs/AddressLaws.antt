@@ -12,7 +12,7 @@ use borrow.Author.Tests.{eqb-true, eqb-false, lt-ltb, le-ltb, le-leb, lt-leb, le
 use Rattle.chip.specs.Place.{between, placeOf}
 use Rattle.chip.specs.Rows.{counterAt, triggering}
 use Rattle.chip.specs.declared.place.Place.{Place}
-use Rattle.chip.specs.declared.place.Place.the-variants.{Beyond, Counter, Trace, Resource}
+use Rattle.chip.specs.declared.place.Place.the-variants.{Beyond, Counter, Trigger}
 
 -- what holds of each number below n by computation
 abbrev pub upTo : ℕ → (ℕ → Bool) → Bool
@@ -71,24 +71,24 @@ between-in first last a e = go (leb a last) refl e
     go true q p = (leb-true first a p, leb-true a last q)
     go false q p = absurd (false≢true p)
 
-pub place-trigger : (a : ℕ) → triggering a ≡ true → placeOf a ≡ cond (leb 112 a) (Resource (a % 16)) (Trace (a % 16))
+pub place-trigger : (a : ℕ) → triggering a ≡ true → placeOf a ≡ Trigger (leb 112 a) (a % 16)
 unfolding placeOf
 place-trigger a e = go (leb 112 a) refl
   where
     h : (96 ≤ a) × (a ≤ 127)
     h = between-in 96 127 a e
 
-    go : (r : Bool) → leb 112 a ≡ r → placeOf a ≡ cond r (Resource (a % 16)) (Trace (a % 16))
+    go : (r : Bool) → leb 112 a ≡ r → placeOf a ≡ Trigger r (a % 16)
     go true q =
         let p : (96 ≤ a) × (a ≤ 127) = h in
         let low : 112 ≤ a = leb-true 112 a q in
         simp (le-ltb a 16 (omega arith), lt-leb a 23 (omega arith), lt-leb a 47 (omega arith), lt-leb a 111 (omega arith), le-leb a 127 (p .1), q)
-        (ap Resource (omega arith))
+        (ap (Trigger true) (omega arith))
     go false q =
         let p : (96 ≤ a) × (a ≤ 127) = h in
         let high : a < 112 = leb-false 112 a q in
         simp (le-ltb a 16 (omega arith), lt-leb a 23 (omega arith), lt-leb a 47 (omega arith), le-leb a 111 (omega arith), le-leb 96 a (p .0))
-        (ap Trace (omega arith))
+        (ap (Trigger false) (omega arith))
 
 pub place-counter : (a : ℕ) → counterAt a ≡ true → placeOf a ≡ Counter (a - 32)
 unfolding placeOf

@@ -25,14 +25,13 @@ use Rattle.chip.specs.Fate.{Fate, isOff, isFiltered, isLost, isTold, isT
 use Rattle.chip.specs.Operation.{Operation, opReset, opWrite, opRead, opTicks, opNodes, opEvents, opSend, opFill, step}
 use Rattle.chip.specs.Place.{placeOf}
 use Rattle.chip.specs.Repeat.{repeat}
-use Rattle.chip.specs.Reply.{replyNumber}
+use Rattle.chip.specs.Reply.{Told}
 use Rattle.chip.specs.Rows.{checked}
 use Rattle.chip.specs.Shape.{Shaped}
-use Rattle.chip.specs.declared.chip.Answer.{Answer}
 use Rattle.chip.specs.declared.chip.Chip.{Chip}
 use Rattle.chip.specs.declared.control.Control.{Control}
 use Rattle.chip.specs.declared.place.Place.{Place}
-use Rattle.chip.specs.declared.place.Place.the-variants.{Beyond, Nowhere, Reset, Csr, Timestamp, Filter, Waits, Overruns, Mux, Clear, Enable, Disable, Source, Counter, Trace, Resource}
+use Rattle.chip.specs.declared.place.Place.the-variants.{Beyond, Nowhere, Reset, Csr, Timestamp, Filter, Waits, Overruns, Mux, Clear, Enable, Disable, Source, Counter, Trigger}
 use Rattle.chip.specs.declared.reply.Reply.the-variants.{Lines, NoWord, Wait, Busy, Outside}
 use Rattle.chip.proofs.ChipLaws.{by-bounds, inside-by, inside-phase, inside-queue, inside-stamp}
 use Rattle.chip.proofs.Replies.{reply-15}
@@ -46,9 +45,9 @@ inside-queued : (c : Chip) (q : Queue) → inside c ≡ true → insideQueue q �
 inside-queued c q h k = inside-by (withQueue q c) k (inside-phase c h) (inside-stamp c h)
 
 -- a sample taken
-take-inside : (r : Bool) (line word : ℕ) (c : Chip) → inside c ≡ true → inside (takeSample r line word c) ≡ true
-take-inside r line word c h =
-    let sample : Held = sampleNow r line word c in
+take-inside : (r : Bool) (line bits : ℕ) (c : Chip) → inside c ≡ true → inside (takeSample r line bits c) ≡ true
+take-inside r line bits c h =
+    let sample : Held = sampleNow r line bits c in
     inside-queued c (pushed sample (c .queue)) h (push-bounds sample (c .queue) (inside-queue c h))
 
 -- ---- "a fresh chip is inside them"
@@ -63,18 +62,18 @@ fresh-shaped = record { places = refl; sources = refl; values = refl; shadows = 
 -- ---- "and every operation keeps them"
 
 -- a statement on the next record
-guarded-keeps : (P : Chip → Type 0) (b : Bool) (c : Chip) (a : Answer) → P c → P (a .chip) → P (cond b a (replied Outside c) .chip)
+guarded-keeps : (P : Chip → Type 0) (b : Bool) (c : Chip) (a : Told) → P c → P (a .chip) → P (cond b a (replied Outside c) .chip)
 guarded-keeps P b c a p q = by-bounds (λ t x. P (x .chip)) b c a q p
 
 -- a trigger keeps what a lost one, one told to wait and a taken one keep
-trigger-keeps : (P : Chip → Type 0) (r o : Bool) (f : Fate) (line word : ℕ) (c : Chip) → P c → ((k : Control) → P (withControl k c)) → P (takeSample r line word c) → P (cond o (triggerBy f r line word c) (replied Lines c) .chip)
+trigger-keeps : (P : Chip → Type 0) (r o : Bool) (f : Fate) (line bits : ℕ) (c : Chip) → P c → ((k : Control) → P (withControl k c)) → P (takeSample r line bits c) → P (cond o (triggerBy f r line bits c) (replied Lines c) .chip)
 unfolding triggerBy
-trigger-keeps P r false f line word c p k t = p
-trigger-keeps P r true isOff line word c p k t = p
-trigger-keeps P r true isFiltered line word c p k t = p
-trigger-keeps P r true isLost line word c p k t = k _
-trigger-keeps P r true isTold line word c p k t = k _
-trigger-keeps P r true isTaken line word c p k t = t
+trigger-keeps P r false f line bits c p k t = p
+trigger-keeps P r true isOff line bits c p k t = p
+trigger-keeps P r true isFiltered line bits c p k t = p
+trigger-keeps P r true isLost line bits c p k t = k _
+trigger-keeps P r true isTold line bits c p k t = k _
+trigger-keeps P r true isTaken line bits c p k t = t
 
 -- a read keeps what a record with another Wait Counter and one with a copy in the shadows keep
 read-keeps : (P : Chip → Type 0) (p : Place) (c : Chip) → P c → ((k : Control) → P (withControl k c)) → P (withBank (copied (c .bank)) c) → P (readAt p c .chip)
@@ -94,42 +93,38 @@ read-keeps P Disable c h k s = h
 read-keeps P (Source i) c h k s = h
 read-keeps P (Counter i) c h k s = go (busy (c .queue)) (c .control .readwait)
   where
-    go : (b w : Bool) → P (cond b (cond w (replied Wait (withControl (waited (c .control)) c)) (record { chip = c; value = 2 ^ 63; reply = Busy })) (done (getD (c .bank .values) i 0) (withBank (copied (c .bank)) c)) .chip)
+    go : (b w : Bool) → P (cond b (cond w (replied Wait (withControl (waited (c .control)) c)) (replied Busy c)) (done (getD (c .bank .values) i 0) (withBank (copied (c .bank)) c)) .chip)
     go true true = k _
     go true false = h
     go false w = s
-read-keeps P (Trace level) c h k s = h
-read-keeps P (Resource level) c h k s = h
+read-keeps P (Trigger r level) c h k s = h
 
 -- the bounds
-write-inside : (p : Place) (word lines : ℕ) (c : Chip) → inside c ≡ true → inside (writeAt p word lines c .chip) ≡ true
+write-inside : (p : Place) (bits lines : ℕ) (c : Chip) → inside c ≡ true → inside (writeAt p bits lines c .chip) ≡ true
 unfolding writeAt trigger
-write-inside Beyond word lines c h = h
-write-inside Nowhere word lines c h = h
-write-inside Reset word lines c h = ap inside (reset-record c) ∙ inside-by (withStamp (c .stamp) fresh) refl (omega arith) (inside-stamp c h)
-write-inside Csr word lines c h = h
-write-inside Timestamp word lines c h = h
-write-inside Filter word lines c h = h
-write-inside Waits word lines c h = h
-write-inside Overruns word lines c h = h
-write-inside Mux word lines c h = h
-write-inside Clear word lines c h = h
-write-inside Enable word lines c h = h
-write-inside Disable word lines c h = h
-write-inside (Source i) word lines c h = h
-write-inside (Counter i) word lines c h = h
-write-inside (Trace level) word lines c h =
-    trigger-keeps (λ d. inside d ≡ true) false (oneLine lines) (fateOf false level c) (lineOf lines) word c h (λ k. h)
-    (take-inside false (lineOf lines) word c h)
-write-inside (Resource level) word lines c h =
-    trigger-keeps (λ d. inside d ≡ true) true (oneLine lines) (fateOf true level c) (lineOf lines) word c h (λ k. h)
-    (take-inside true (lineOf lines) word c h)
+write-inside Beyond bits lines c h = h
+write-inside Nowhere bits lines c h = h
+write-inside Reset bits lines c h = ap inside (reset-record c) ∙ inside-by (withStamp (c .stamp) fresh) refl (omega arith) (inside-stamp c h)
+write-inside Csr bits lines c h = h
+write-inside Timestamp bits lines c h = h
+write-inside Filter bits lines c h = h
+write-inside Waits bits lines c h = h
+write-inside Overruns bits lines c h = h
+write-inside Mux bits lines c h = h
+write-inside Clear bits lines c h = h
+write-inside Enable bits lines c h = h
+write-inside Disable bits lines c h = h
+write-inside (Source i) bits lines c h = h
+write-inside (Counter i) bits lines c h = h
+write-inside (Trigger r level) bits lines c h =
+    trigger-keeps (λ d. inside d ≡ true) r (oneLine lines) (fateOf r level c) (lineOf lines) bits c h (λ k. h)
+    (take-inside r (lineOf lines) bits c h)
 
 pub keeps-inside : (op : Operation) (c : Chip) → inside c ≡ true → inside (step op c .chip) ≡ true
 unfolding write read timestampTicks nodeTicks externalEvents send sendInto sendMany
 keeps-inside opReset c h = refl
-keeps-inside (opWrite a word lines) c h =
-    guarded-keeps (λ d. inside d ≡ true) (inside c) c (writeAt (placeOf a) word lines c) h (write-inside (placeOf a) word lines c h)
+keeps-inside (opWrite a bits lines) c h =
+    guarded-keeps (λ d. inside d ≡ true) (inside c) c (writeAt (placeOf a) bits lines c) h (write-inside (placeOf a) bits lines c h)
 keeps-inside (opRead a) c h =
     guarded-keeps (λ d. inside d ≡ true) (inside c) c (readAt (placeOf a) c) h (read-keeps (λ d. inside d ≡ true) (placeOf a) c h (λ k. h) h)
 keeps-inside (opTicks k) c h =
@@ -168,57 +163,55 @@ counting-shaped f k c s = shaped-bank c (counting f k (c .bank)) s (counting-in 
 shaped-queue : (c : Chip) (q : Queue) → Shaped c → length (q .places) ≡ 8 → Shaped (withQueue q c)
 shaped-queue c q s e = record { places = e; sources = s .sources; values = s .values; shadows = s .shadows }
 
-take-shaped : (r : Bool) (line word : ℕ) (c : Chip) → Shaped c → Shaped (takeSample r line word c)
-take-shaped true line word c s =
+take-shaped : (r : Bool) (line bits : ℕ) (c : Chip) → Shaped c → Shaped (takeSample r line bits c)
+take-shaped true line bits c s =
     record {
-      places = push-places (sampleNow true line word c) (c .queue) (s .places);
+      places = push-places (sampleNow true line bits c) (c .queue) (s .places);
       sources = s .sources;
       values = s .values;
       shadows = s .values;
     }
-take-shaped false line word c s =
+take-shaped false line bits c s =
     record {
-      places = push-places (sampleNow false line word c) (c .queue) (s .places);
+      places = push-places (sampleNow false line bits c) (c .queue) (s .places);
       sources = s .sources;
       values = s .values;
       shadows = s .shadows;
     }
 
-write-shaped : (p : Place) (word lines : ℕ) (c : Chip) → Shaped c → Shaped (writeAt p word lines c .chip)
+write-shaped : (p : Place) (bits lines : ℕ) (c : Chip) → Shaped c → Shaped (writeAt p bits lines c .chip)
 unfolding writeAt trigger
-write-shaped Beyond word lines c s = s
-write-shaped Nowhere word lines c s = s
-write-shaped Reset word lines c s = subst Shaped (sym (reset-record c)) fresh-shaped
-write-shaped Csr word lines c s = s
-write-shaped Timestamp word lines c s = s
-write-shaped Filter word lines c s = s
-write-shaped Waits word lines c s = s
-write-shaped Overruns word lines c s = s
-write-shaped Mux word lines c s = s
-write-shaped Clear word lines c s =
-    shaped-bank c (cleared (word % 2 ^ 16) (c .bank)) s
-    (each-within 4 16 (λ i v. cond (bit (word % 2 ^ 16) i) 0 v) 0 (c .bank .values) (λ j v h. clear-below (bit (word % 2 ^ 16) j) v h) (s .values))
+write-shaped Beyond bits lines c s = s
+write-shaped Nowhere bits lines c s = s
+write-shaped Reset bits lines c s = subst Shaped (sym (reset-record c)) fresh-shaped
+write-shaped Csr bits lines c s = s
+write-shaped Timestamp bits lines c s = s
+write-shaped Filter bits lines c s = s
+write-shaped Waits bits lines c s = s
+write-shaped Overruns bits lines c s = s
+write-shaped Mux bits lines c s = s
+write-shaped Clear bits lines c s =
+    shaped-bank c (cleared (bits % 2 ^ 16) (c .bank)) s
+    (each-within 4 16 (λ i v. cond (bit (bits % 2 ^ 16) i) 0 v) 0 (c .bank .values) (λ j v h. clear-below (bit (bits % 2 ^ 16) j) v h) (s .values))
     (s .shadows)
-write-shaped Enable word lines c s = s
-write-shaped Disable word lines c s = s
-write-shaped (Source i) word lines c s =
+write-shaped Enable bits lines c s = s
+write-shaped Disable bits lines c s = s
+write-shaped (Source i) bits lines c s =
     record {
       places = s .places;
-      sources = within-set 4 8 (c .sources) i (word % 2 ^ 32) (s .sources) (omega arith);
+      sources = within-set 4 8 (c .sources) i (bits % 2 ^ 32) (s .sources) (omega arith);
       values = s .values;
       shadows = s .shadows;
     }
-write-shaped (Counter i) word lines c s = counting-shaped (λ j. eqb j i && due Software (c .switches) j) 1 c s
-write-shaped (Trace level) word lines c s =
-    trigger-keeps Shaped false (oneLine lines) (fateOf false level c) (lineOf lines) word c s (λ k. s) (take-shaped false (lineOf lines) word c s)
-write-shaped (Resource level) word lines c s =
-    trigger-keeps Shaped true (oneLine lines) (fateOf true level c) (lineOf lines) word c s (λ k. s) (take-shaped true (lineOf lines) word c s)
+write-shaped (Counter i) bits lines c s = counting-shaped (λ j. eqb j i && due Software (c .switches) j) 1 c s
+write-shaped (Trigger r level) bits lines c s =
+    trigger-keeps Shaped r (oneLine lines) (fateOf r level c) (lineOf lines) bits c s (λ k. s) (take-shaped r (lineOf lines) bits c s)
 
 pub keeps-shaped : (op : Operation) (c : Chip) → Shaped c → Shaped (step op c .chip)
 unfolding write read timestampTicks nodeTicks externalEvents send sendInto sendMany
 keeps-shaped opReset c s = fresh-shaped
-keeps-shaped (opWrite a word lines) c s =
-    guarded-keeps Shaped (inside c) c (writeAt (placeOf a) word lines c) s (write-shaped (placeOf a) word lines c s)
+keeps-shaped (opWrite a bits lines) c s =
+    guarded-keeps Shaped (inside c) c (writeAt (placeOf a) bits lines c) s (write-shaped (placeOf a) bits lines c s)
 keeps-shaped (opRead a) c s =
     guarded-keeps Shaped (inside c) c (readAt (placeOf a) c) s
     (read-keeps Shaped (placeOf a) c s (λ k. s) (shaped-bank c (copied (c .bank)) s (s .values) (s .values)))
@@ -239,7 +232,7 @@ keeps-shaped (opFill room) c s =
     (shaped-queue c (sendQueue room (c .queue)) s (send-places room (c .queue) (s .places)))
 
 -- so 15 is never replied on the way
-pub never-15 : (op : Operation) (c : Chip) → inside c ≡ true → eqb (replyNumber (step op c .reply)) 15 ≡ false
+pub never-15 : (op : Operation) (c : Chip) → inside c ≡ true → eqb (step op c .number) 15 ≡ false
 never-15 op c h = reply-15 op c ∙ ap (λ (b : Bool). checked op && not b) h ∙ and-false (checked op)
 
 -- operations repeated keep the bounds
@@ -247,3 +240,9 @@ pub repeat-inside : (k : ℕ) (op : Operation) (c : Chip) → inside c ≡ true 
 unfolding repeat
 repeat-inside zero op c h = h
 repeat-inside (suc k) op c h = repeat-inside k op (step op c .chip) (keeps-inside op c h)
+
+-- and one that leaves the record leaves it every time
+pub repeat-same : (k : ℕ) (op : Operation) (c : Chip) → step op c .chip ≡ c → repeat k op c ≡ c
+unfolding repeat
+repeat-same zero op c e = refl
+repeat-same (suc k) op c e = ap (repeat k op) e ∙ repeat-same k op c e

@@ -7,18 +7,18 @@ use borrow.Author.Tests.{lt-ltb, ltb-true}
 use Rattle.samples.proofs.Gather.{both-left, both-right}
 use Rattle.queue.specs.Queue.{insideQueue}
 use Rattle.chip.specs.Chip.{guarded, inside, replied}
-use Rattle.chip.specs.declared.chip.Answer.{Answer}
+use Rattle.chip.specs.Reply.{Told}
 use Rattle.chip.specs.declared.chip.Chip.{Chip}
 use Rattle.chip.specs.declared.reply.Reply.the-variants.{Outside}
 
-pub guard-in : (c : Chip) (a : Answer) → inside c ≡ true → a ≡ guarded c a
+pub guard-in : (c : Chip) (a : Told) → inside c ≡ true → a ≡ guarded c a
 guard-in c a e = ap (λ (b : Bool). cond b a (replied Outside c)) (sym e)
 
-pub guard-out : (c : Chip) (a : Answer) → inside c ≡ false → replied Outside c ≡ guarded c a
+pub guard-out : (c : Chip) (a : Told) → inside c ≡ false → replied Outside c ≡ guarded c a
 guard-out c a e = ap (λ (b : Bool). cond b a (replied Outside c)) (sym e)
 
 -- a statement of an answer and of whether the record is inside: shown for the answer inside and for 15 outside
-pub by-bounds : (P : Bool → Answer → Type 0) (b : Bool) (c : Chip) (a : Answer) → P true a → P false (replied Outside c) → P b (cond b a (replied Outside c))
+pub by-bounds : (P : Bool → Told → Type 0) (b : Bool) (c : Chip) (a : Told) → P true a → P false (replied Outside c) → P b (cond b a (replied Outside c))
 by-bounds P true c a p q = p
 by-bounds P false c a p q = q
 

@@ -6,6 +6,7 @@ pub mod LineLaws
 pub mod Refusals
 pub mod Replies
 pub mod Resets
+pub mod RoomLaws
 pub mod Sends
 pub mod Ticks
 pub mod WidthLaws

@@ -1,36 +1,25 @@
 -- Laws of the processor lines: a count of ones that is one is one of the eight lines alone, its number, and that no other write looks at
 -- them. By computation over the 256 settings of the lines and the 128 addresses, and by induction on how many lines there are. Assumes
 -- nothing.
-use Prim.Native.Nat.{ℕ, zero, suc, _+_, _*_, _/_, _%_, _^_, _<_, suc-le-suc}
+use Prim.Native.Nat.{ℕ, zero, suc, _+_, _/_, _%_, _^_, _<_, suc-le-suc}
 use native.Mathlib.Nat.{mod-lt, zero-lt-suc, zero-add}
-use native.Mathlib.Numerals.{add-one}
 use native.Mathlib.Omega.{arith}
-use mathlib.Core.Path.{_≡_, refl, sym, ap, ap₂, _∙_}
+use mathlib.Core.Path.{_≡_, refl, sym, ap, _∙_}
 use mathlib.Core.Bool.{Bool, true, false, _&&_, false≢true}
 use mathlib.Core.List.{List, [], _∷_}
 use lib.Count.{onesIn, trailingZeros, under}
 use lib.Dec.{eqb, leb}
 use lib.ListN.{getD}
-use lib.Pow.{mod-pow-add}
 use borrow.Author.Tests.{eqb-true, lt-leb}
+use Rattle.words.proofs.WordLaws.{ones-low}
 use Rattle.chip.specs.Chip.{guarded, lineOf, oneLine, write, writeAt}
 use Rattle.chip.specs.Operation.{opWrite, step}
 use Rattle.chip.specs.Place.{placeOf, registerOf}
 use Rattle.chip.specs.Rows.{lineAlone, oneActive, triggering}
 use Rattle.chip.specs.declared.chip.Chip.{Chip}
 use Rattle.chip.specs.declared.place.Place.{Place}
-use Rattle.chip.specs.declared.place.Place.the-variants.{Beyond, Nowhere, Reset, Csr, Timestamp, Filter, Waits, Overruns, Mux, Clear, Enable, Disable, Source, Counter, Trace, Resource}
+use Rattle.chip.specs.declared.place.Place.the-variants.{Beyond, Nowhere, Reset, Csr, Timestamp, Filter, Waits, Overruns, Mux, Clear, Enable, Disable, Source, Counter, Trigger}
 use Rattle.chip.proofs.AddressLaws.{place-test, same, same-eq, upTo, upTo-at}
-
--- ones are counted among the lowest bits alone
-ones-low : (k n : ℕ) → onesIn k (n % 2 ^ k) ≡ onesIn k n
-unfolding onesIn
-ones-low zero n = refl
-ones-low (suc k) n =
-    let more : n % 2 ^ suc k ≡ (n / 2 % 2 ^ k) * 2 + n % 2 = ap (λ (j : ℕ). n % 2 ^ j) (sym (add-one k)) ∙ mod-pow-add n k 1 in
-    let lowest : n % 2 ^ suc k % 2 ≡ n % 2 = omega arith in
-    let half : n % 2 ^ suc k / 2 ≡ n / 2 % 2 ^ k = omega arith in
-    ap₂ _+_ lowest (ap (onesIn k) half ∙ ones-low k (n / 2))
 
 -- "exactly one active processor line"
 pub one-line : (lines : ℕ) → oneLine lines ≡ oneActive lines
@@ -75,32 +64,30 @@ triggerPlace Enable = false
 triggerPlace Disable = false
 triggerPlace (Source i) = false
 triggerPlace (Counter i) = false
-triggerPlace (Trace level) = true
-triggerPlace (Resource level) = true
+triggerPlace (Trigger r level) = true
 
-other-place : (p : Place) (word lines lines′ : ℕ) (c : Chip) → triggerPlace p ≡ false → writeAt p word lines c ≡ writeAt p word lines′ c
+other-place : (p : Place) (bits lines lines′ : ℕ) (c : Chip) → triggerPlace p ≡ false → writeAt p bits lines c ≡ writeAt p bits lines′ c
 unfolding writeAt
-other-place Beyond word lines lines′ c e = refl
-other-place Nowhere word lines lines′ c e = refl
-other-place Reset word lines lines′ c e = refl
-other-place Csr word lines lines′ c e = refl
-other-place Timestamp word lines lines′ c e = refl
-other-place Filter word lines lines′ c e = refl
-other-place Waits word lines lines′ c e = refl
-other-place Overruns word lines lines′ c e = refl
-other-place Mux word lines lines′ c e = refl
-other-place Clear word lines lines′ c e = refl
-other-place Enable word lines lines′ c e = refl
-other-place Disable word lines lines′ c e = refl
-other-place (Source i) word lines lines′ c e = refl
-other-place (Counter i) word lines lines′ c e = refl
-other-place (Trace level) word lines lines′ c e = absurd (false≢true (sym e))
-other-place (Resource level) word lines lines′ c e = absurd (false≢true (sym e))
+other-place Beyond bits lines lines′ c e = refl
+other-place Nowhere bits lines lines′ c e = refl
+other-place Reset bits lines lines′ c e = refl
+other-place Csr bits lines lines′ c e = refl
+other-place Timestamp bits lines lines′ c e = refl
+other-place Filter bits lines lines′ c e = refl
+other-place Waits bits lines lines′ c e = refl
+other-place Overruns bits lines lines′ c e = refl
+other-place Mux bits lines lines′ c e = refl
+other-place Clear bits lines lines′ c e = refl
+other-place Enable bits lines lines′ c e = refl
+other-place Disable bits lines lines′ c e = refl
+other-place (Source i) bits lines lines′ c e = refl
+other-place (Counter i) bits lines lines′ c e = refl
+other-place (Trigger r level) bits lines lines′ c e = absurd (false≢true (sym e))
 
 trigger-at : (a : ℕ) → triggerPlace (placeOf a) ≡ triggering a
 unfolding placeOf registerOf
 trigger-at a = place-test triggerPlace triggering refl refl (λ b h. ap (λ (t : Bool). t && leb 96 b) (lt-leb b 127 h)) a
 
-pub lines-ignored : (a word lines lines′ : ℕ) (c : Chip) → triggering a ≡ false → step (opWrite a word lines) c ≡ step (opWrite a word lines′) c
+pub lines-ignored : (a bits lines lines′ : ℕ) (c : Chip) → triggering a ≡ false → step (opWrite a bits lines) c ≡ step (opWrite a bits lines′) c
 unfolding write
-lines-ignored a word lines lines′ c e = ap (guarded c) (other-place (placeOf a) word lines lines′ c (trigger-at a ∙ e))
+lines-ignored a bits lines lines′ c e = ap (guarded c) (other-place (placeOf a) bits lines lines′ c (trigger-at a ∙ e))

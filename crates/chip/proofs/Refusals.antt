@@ -1,54 +1,55 @@
 -- The table's columns "Value" and "Record" for every reply but 0: each arm of the definitions gives what its row says. Assumes nothing.
 use Prim.Native.Nat.{ℕ, _^_}
-use mathlib.Core.Path.{_≡_, refl, ap, subst}
+use mathlib.Core.Path.{_≡_, refl, sym, ap, subst, _∙_}
 use mathlib.Core.Bool.{Bool, true, false, cond, _&&_, false≢true}
 use lib.Dec.{leb, eqb}
-use borrow.Author.Tests.{lt-leb}
+use borrow.Author.Tests.{lt-leb, ne-eqb}
 use Rattle.queue.specs.Queue.{advanced, busy, full, nextWord}
 use Rattle.chip.specs.Chip.{afterTicks, blocked, done, externalEvents, fateOf, inside, lineOf, nodeTicks, oneLine, read, readAt, readCounter, replied, send, sendInto, sendNow, timestampTicks, trigger, triggerBy, withControl, withQueue, write, writeAt}
 use Rattle.chip.specs.Control.{overran, waited}
 use Rattle.chip.specs.Fate.{Fate, isOff, isFiltered, isLost, isTold, isTaken}
 use Rattle.chip.specs.Operation.{Operation, opReset, opWrite, opRead, opTicks, opNodes, opEvents, opSend, opFill, step}
 use Rattle.chip.specs.Place.{between, placeOf, registerOf}
-use Rattle.chip.specs.Rows.{refused, resourceTrigger}
-use Rattle.chip.specs.declared.chip.Answer.{Answer}
+use Rattle.chip.specs.Reply.{Told}
+use Rattle.chip.specs.Rows.{refused, resourceHeld, resourceTrigger}
 use Rattle.chip.specs.declared.chip.Chip.{Chip}
 use Rattle.chip.specs.declared.place.Place.{Place}
-use Rattle.chip.specs.declared.place.Place.the-variants.{Beyond, Nowhere, Reset, Csr, Timestamp, Filter, Waits, Overruns, Mux, Clear, Enable, Disable, Source, Counter, Trace, Resource}
-use Rattle.chip.specs.declared.reply.Reply.{Reply}
-use Rattle.chip.specs.declared.reply.Reply.the-variants.{Done, TooHigh, Nothing, Forbidden, Lines, NoWord, Off, Filtered, Lost, Wait, Busy, Outside}
+use Rattle.chip.specs.declared.place.Place.the-variants.{Beyond, Nowhere, Reset, Csr, Timestamp, Filter, Waits, Overruns, Mux, Clear, Enable, Disable, Source, Counter, Trigger}
+use Rattle.chip.specs.declared.reply.Reply.the-variants.{Lines, NoWord, Wait, Busy, Outside}
 use Rattle.chip.proofs.AddressLaws.{place-test}
 use Rattle.chip.proofs.ChipLaws.{by-bounds}
+use Rattle.chip.proofs.RoomLaws.{rows-busy}
 
--- what a reply's row says of the value and of the next record; `r` is for a Resource trigger
-abbrev Kept : Bool → Chip → Reply → ℕ → Chip → Type 0
-Kept r c Done v d = Unit
-Kept r c TooHigh v d = (v ≡ 0) × (d ≡ c)
-Kept r c Nothing v d = (v ≡ 0) × (d ≡ c)
-Kept r c Forbidden v d = (v ≡ 0) × (d ≡ c)
-Kept r c Lines v d = (v ≡ 0) × (d ≡ c)
-Kept r c NoWord v d = (v ≡ 0) × (d ≡ c)
-Kept r c Off v d = (v ≡ 0) × (d ≡ c)
-Kept r c Filtered v d = (v ≡ 0) × (d ≡ c)
-Kept r c Lost v d = (v ≡ 0) × (d ≡ withControl (overran (full (c .queue)) (blocked r (c .queue)) (c .control)) c)
-Kept r c Wait v d = (v ≡ 0) × (d ≡ withControl (waited (c .control)) c)
-Kept r c Busy v d = (v ≡ 2 ^ 63) × (d ≡ c)
-Kept r c Outside v d = (v ≡ 0) × (d ≡ c)
+-- what a row but 0 says of the value and of the next record, by its number; `r` is for a Resource trigger
+abbrev valueAt : ℕ → ℕ
+valueAt n = cond (eqb n 11) (2 ^ 63) 0
 
-abbrev KeptBy : Bool → Chip → Answer → Type 0
-KeptBy r c a = Kept r c (a .reply) (a .value) (a .chip)
+abbrev recordAt : Bool → ℕ → Chip → Chip
+recordAt r n c =
+    cond (eqb n 8) (withControl (overran (full (c .queue)) (blocked r (c .queue)) (c .control)) c)
+    (cond (eqb n 10) (withControl (waited (c .control)) c) c)
 
-kept-guard : (r b : Bool) (c : Chip) (a : Answer) → KeptBy r c a → KeptBy r c (cond b a (replied Outside c))
+abbrev Unless : Bool → Type 0 → Type 0
+Unless true T = Unit
+Unless false T = T
+
+abbrev Kept : Bool → Chip → ℕ → ℕ → Chip → Type 0
+Kept r c n v d = Unless (eqb n 0) ((v ≡ valueAt n) × (d ≡ recordAt r n c))
+
+abbrev KeptBy : Bool → Chip → Told → Type 0
+KeptBy r c a = Kept r c (a .number) (a .value) (a .chip)
+
+kept-guard : (r b : Bool) (c : Chip) (a : Told) → KeptBy r c a → KeptBy r c (cond b a (replied Outside c))
 kept-guard r b c a k = by-bounds (λ t x. KeptBy r c x) b c a k (refl, refl)
 
-kept-trigger : (o r : Bool) (f : Fate) (line word : ℕ) (c : Chip) → KeptBy r c (cond o (triggerBy f r line word c) (replied Lines c))
+kept-trigger : (o r : Bool) (f : Fate) (line bits : ℕ) (c : Chip) → KeptBy r c (cond o (triggerBy f r line bits c) (replied Lines c))
 unfolding triggerBy
-kept-trigger false r f line word c = (refl, refl)
-kept-trigger true r isOff line word c = (refl, refl)
-kept-trigger true r isFiltered line word c = (refl, refl)
-kept-trigger true r isLost line word c = (refl, refl)
-kept-trigger true r isTold line word c = (refl, refl)
-kept-trigger true r isTaken line word c = tt
+kept-trigger false r f line bits c = (refl, refl)
+kept-trigger true r isOff line bits c = (refl, refl)
+kept-trigger true r isFiltered line bits c = (refl, refl)
+kept-trigger true r isLost line bits c = (refl, refl)
+kept-trigger true r isTold line bits c = (refl, refl)
+kept-trigger true r isTaken line bits c = tt
 
 abbrev resourceAt : Place → Bool
 resourceAt Beyond = false
@@ -65,29 +66,27 @@ resourceAt Enable = false
 resourceAt Disable = false
 resourceAt (Source i) = false
 resourceAt (Counter i) = false
-resourceAt (Trace level) = false
-resourceAt (Resource level) = true
+resourceAt (Trigger r level) = r
 
-kept-write : (p : Place) (word lines : ℕ) (c : Chip) → KeptBy (resourceAt p) c (writeAt p word lines c)
+kept-write : (p : Place) (bits lines : ℕ) (c : Chip) → KeptBy (resourceAt p) c (writeAt p bits lines c)
 unfolding writeAt trigger
-kept-write Beyond word lines c = (refl, refl)
-kept-write Nowhere word lines c = (refl, refl)
-kept-write Reset word lines c = tt
-kept-write Csr word lines c = tt
-kept-write Timestamp word lines c = (refl, refl)
-kept-write Filter word lines c = tt
-kept-write Waits word lines c = tt
-kept-write Overruns word lines c = tt
-kept-write Mux word lines c = tt
-kept-write Clear word lines c = tt
-kept-write Enable word lines c = tt
-kept-write Disable word lines c = tt
-kept-write (Source i) word lines c = tt
-kept-write (Counter i) word lines c = tt
-kept-write (Trace level) word lines c = kept-trigger (oneLine lines) false (fateOf false level c) (lineOf lines) word c
-kept-write (Resource level) word lines c = kept-trigger (oneLine lines) true (fateOf true level c) (lineOf lines) word c
+kept-write Beyond bits lines c = (refl, refl)
+kept-write Nowhere bits lines c = (refl, refl)
+kept-write Reset bits lines c = tt
+kept-write Csr bits lines c = tt
+kept-write Timestamp bits lines c = (refl, refl)
+kept-write Filter bits lines c = tt
+kept-write Waits bits lines c = tt
+kept-write Overruns bits lines c = tt
+kept-write Mux bits lines c = tt
+kept-write Clear bits lines c = tt
+kept-write Enable bits lines c = tt
+kept-write Disable bits lines c = tt
+kept-write (Source i) bits lines c = tt
+kept-write (Counter i) bits lines c = tt
+kept-write (Trigger r level) bits lines c = kept-trigger (oneLine lines) r (fateOf r level c) (lineOf lines) bits c
 
-kept-count : (r b w : Bool) (c d : Chip) (v : ℕ) → KeptBy r c (cond b (cond w (replied Wait (withControl (waited (c .control)) c)) (record { chip = c; value = 2 ^ 63; reply = Busy })) (done v d))
+kept-count : (r b w : Bool) (c d : Chip) (v : ℕ) → KeptBy r c (cond b (cond w (replied Wait (withControl (waited (c .control)) c)) (replied Busy c)) (done v d))
 kept-count r true true c d v = (refl, refl)
 kept-count r true false c d v = (refl, refl)
 kept-count r false w c d v = tt
@@ -108,8 +107,7 @@ kept-read r Enable c = tt
 kept-read r Disable c = (refl, refl)
 kept-read r (Source i) c = tt
 kept-read r (Counter i) c = kept-count r (busy (c .queue)) (c .control .readwait) c _ _
-kept-read r (Trace level) c = (refl, refl)
-kept-read r (Resource level) c = (refl, refl)
+kept-read r (Trigger k level) c = (refl, refl)
 
 -- a Resource trigger's addresses
 resource-at : (a : ℕ) → resourceAt (placeOf a) ≡ between 112 127 a
@@ -121,9 +119,9 @@ resource-at a =
 kept : (op : Operation) (c : Chip) → KeptBy (resourceTrigger op) c (step op c)
 unfolding write read timestampTicks nodeTicks externalEvents send sendInto
 kept opReset c = tt
-kept (opWrite a word lines) c =
-    kept-guard (between 112 127 a) (inside c) c (writeAt (placeOf a) word lines c)
-    (subst (λ (r : Bool). KeptBy r c (writeAt (placeOf a) word lines c)) (resource-at a) (kept-write (placeOf a) word lines c))
+kept (opWrite a bits lines) c =
+    kept-guard (between 112 127 a) (inside c) c (writeAt (placeOf a) bits lines c)
+    (subst (λ (r : Bool). KeptBy r c (writeAt (placeOf a) bits lines c)) (resource-at a) (kept-write (placeOf a) bits lines c))
 kept (opRead a) c = kept-guard false (inside c) c (readAt (placeOf a) c) (kept-read false (placeOf a) c)
 kept (opTicks k) c = kept-guard false (inside c) c (done 0 (afterTicks k c)) tt
 kept (opNodes k) c = kept-guard false (inside c) c (done 0 _) tt
@@ -137,43 +135,39 @@ kept (opFill room) c = kept-guard false (inside c) c (done _ _) tt
 
 -- ---- the columns
 
-kept-refused : (r : Bool) (c : Chip) (x : Reply) (v : ℕ) (d : Chip) → refused x ≡ true → Kept r c x v d → (v ≡ 0) × (d ≡ c)
-kept-refused r c Done v d e k = absurd (false≢true e)
-kept-refused r c TooHigh v d e k = k
-kept-refused r c Nothing v d e k = k
-kept-refused r c Forbidden v d e k = k
-kept-refused r c Lines v d e k = k
-kept-refused r c NoWord v d e k = k
-kept-refused r c Off v d e k = absurd (false≢true e)
-kept-refused r c Filtered v d e k = absurd (false≢true e)
-kept-refused r c Lost v d e k = absurd (false≢true e)
-kept-refused r c Wait v d e k = absurd (false≢true e)
-kept-refused r c Busy v d e k = absurd (false≢true e)
-kept-refused r c Outside v d e k = k
+-- a number that is a refusal is none that isn't
+refused-not : (n m : ℕ) → refused n ≡ true → refused m ≡ false → eqb n m ≡ false
+refused-not n m e p = ne-eqb n m (λ q. false≢true (sym p ∙ ap refused (sym q) ∙ e))
+
+kept-refused : (r : Bool) (c : Chip) (n v : ℕ) (d : Chip) → refused n ≡ true → Kept r c n v d → (v ≡ 0) × (d ≡ c)
+kept-refused r c n v d e k =
+    simp (refused-not n 0 e refl, refused-not n 8 e refl, refused-not n 10 e refl, refused-not n 11 e refl) at k
 
 module _ (op : Operation) (c : Chip) where
-  kept-as : (x : Reply) → step op c .reply ≡ x → Kept (resourceTrigger op) c x (step op c .value) (step op c .chip)
-  kept-as x e = subst (λ (y : Reply). Kept (resourceTrigger op) c y (step op c .value) (step op c .chip)) e (kept op c)
+  kept-as : (n : ℕ) → step op c .number ≡ n → Kept (resourceTrigger op) c n (step op c .value) (step op c .chip)
+  kept-as n e = subst (λ (m : ℕ). Kept (resourceTrigger op) c m (step op c .value) (step op c .chip)) e (kept op c)
 
   -- 1 to 5 and 15: value "0", record "same"
-  pub refusals : refused (step op c .reply) ≡ true → (step op c .value ≡ 0) × (step op c .chip ≡ c)
-  refusals e = kept-refused (resourceTrigger op) c (step op c .reply) (step op c .value) (step op c .chip) e (kept op c)
+  pub refusals : refused (step op c .number) ≡ true → (step op c .value ≡ 0) × (step op c .chip ≡ c)
+  refusals e = kept-refused (resourceTrigger op) c (step op c .number) (step op c .value) (step op c .chip) e (kept op c)
 
   -- 6 and 7: value "0", record "same"
-  pub when-off : step op c .reply ≡ Off → (step op c .value ≡ 0) × (step op c .chip ≡ c)
-  when-off e = kept-as Off e
+  pub when-off : step op c .number ≡ 6 → (step op c .value ≡ 0) × (step op c .chip ≡ c)
+  when-off e = kept-as 6 e
 
-  pub when-filtered : step op c .reply ≡ Filtered → (step op c .value ≡ 0) × (step op c .chip ≡ c)
-  when-filtered e = kept-as Filtered e
+  pub when-filtered : step op c .number ≡ 7 → (step op c .value ≡ 0) × (step op c .chip ≡ c)
+  when-filtered e = kept-as 7 e
 
   -- 8: value "0", record "overrun rules"
-  pub when-lost : step op c .reply ≡ Lost → (step op c .value ≡ 0) × (step op c .chip ≡ withControl (overran (full (c .queue)) (blocked (resourceTrigger op) (c .queue)) (c .control)) c)
-  when-lost e = kept-as Lost e
+  pub when-lost : step op c .number ≡ 8 → (step op c .value ≡ 0) × (step op c .chip ≡ withControl (overran (leb 8 (c .queue .held)) (resourceTrigger op && resourceHeld c) (c .control)) c)
+  when-lost e =
+      let k = kept-as 8 e in
+      (k .0, k .1 ∙ ap (λ (b : Bool). withControl (overran (leb 8 (c .queue .held)) (resourceTrigger op && b) (c .control)) c) (rows-busy c))
 
   -- 10: value "0", record "Wait Counter + 1"
-  pub when-waiting : step op c .reply ≡ Wait → (step op c .value ≡ 0) × (step op c .chip ≡ withControl (waited (c .control)) c)
-  when-waiting e = kept-as Wait e
+  pub when-waiting : step op c .number ≡ 10 → (step op c .value ≡ 0) × (step op c .chip ≡ withControl (waited (c .control)) c)
+  when-waiting e = kept-as 10 e
 
   -- 11: value "2^63", record "same"
-  pub when-busy : step op c .reply ≡ Busy → (step op c .value ≡ 2 ^ 63) × (step op c .chip ≡ c)
-  when-busy e = kept-as Busy e
+  pub when-busy : step op c .number ≡ 11 → (step op c .value ≡ 2 ^ 63) × (step op c .chip ≡ c)
+  when-busy e = kept-as 11 e

@@ -2,7 +2,7 @@
 -- counters' reads, and for those by the definitions' own tests. Assumes nothing.
 use Prim.Native.Nat.{ℕ, _-_, _%_, _^_, _≤_, _<_}
 use native.Mathlib.Omega.{arith}
-use mathlib.Core.Path.{_≡_, refl, sym, ap, _∙_}
+use mathlib.Core.Path.{_≡_, refl, sym, ap, ap₂, _∙_}
 use mathlib.Core.Bool.{Bool, true, false, cond, not, _&&_, _||_}
 use mathlib.Core.List.{List, [], _∷_, map}
 use lib.Dec.{leb, ltb, eqb}
@@ -10,26 +10,27 @@ use lib.ListN.{getD}
 use borrow.Author.Tests.{lt-ltb, lt-leb, ne-eqb, ltb-true, ltb-false}
 use Rattle.counters.specs.Bank.{copied}
 use Rattle.queue.specs.Queue.{busy}
-use Rattle.chip.specs.Chip.{done, externalEvents, inside, lacksRoom, lineOf, nodeTicks, oneLine, read, readAt, readCounter, replied, send, sendInto, sentBuffer, timestampTicks, trigger, triggerBy, withBank, withControl, write, writeAt}
+use Rattle.chip.specs.Chip.{done, externalEvents, inside, lacksRoom, lineOf, nodeTicks, oneLine, read, readAt, readCounter, replied, send, sendInto, timestampTicks, trigger, triggerBy, withBank, withControl, write, writeAt}
 use Rattle.chip.specs.Control.{waited}
 use Rattle.chip.specs.Fate.{fate}
 use Rattle.chip.specs.Operation.{Operation, opReset, opWrite, opRead, opTicks, opNodes, opEvents, opSend, opFill, step}
 use Rattle.chip.specs.Place.{placeOf, registerOf}
-use Rattle.chip.specs.Reply.{replyNumber}
-use Rattle.chip.specs.Rows.{counterAt, mapped, lacking, passes, readOnly, row0, row1, row2, row3, row4, row5, row6, row7, row8, row10, row11, row15, triggering, vacant, writeOnly}
+use Rattle.chip.specs.Reply.{Told, replyNumber, told}
+use Rattle.chip.specs.Rows.{counterAt, mapped, passes, readOnly, row0, row1, row2, row3, row4, row5, row6, row7, row8, row10, row11, row15, triggering, vacant, writeOnly}
 use Rattle.chip.specs.declared.chip.Answer.{Answer}
 use Rattle.chip.specs.declared.chip.Chip.{Chip}
 use Rattle.chip.specs.declared.place.Place.{Place}
-use Rattle.chip.specs.declared.place.Place.the-variants.{Trace, Resource}
+use Rattle.chip.specs.declared.place.Place.the-variants.{Trigger}
 use Rattle.chip.specs.declared.reply.Reply.{Reply}
-use Rattle.chip.specs.declared.reply.Reply.the-variants.{Done, Lines, NoWord, Wait, Busy, Outside}
+use Rattle.chip.specs.declared.reply.Reply.the-variants.{Done, TooHigh, Nothing, Forbidden, Lines, NoWord, Off, Filtered, Lost, Wait, Busy, Outside}
 use Rattle.chip.proofs.AddressLaws.{or-rest, place-beyond, place-counter, place-trigger, same, same-eq, upTo-at}
 use Rattle.chip.proofs.ChipLaws.{by-bounds}
 use Rattle.chip.proofs.LineLaws.{one-line}
+use Rattle.chip.proofs.RoomLaws.{rows-busy, rows-room}
 
 -- ---- the rows by their tests
 
--- all rows at once, the last by the others, and which of their numbers a reply has
+-- all rows at once, the last by the others, and which of their numbers a reply is
 abbrev table : Bool → Bool → Bool → Bool → Bool → Bool → Bool → Bool → Bool → Bool → Bool → List Bool
 table x15 x1 x2 x3 x4 x5 x6 x7 x8 x10 x11 =
     x15 ∷ x1 ∷ x2 ∷ x3 ∷ x4 ∷ x5 ∷ x6 ∷ x7 ∷ x8 ∷ x10 ∷ x11 ∷ not (x15 || (x1 || (x2 || (x3 || (x4 || (x5 || (x6 || (x7 || (x8 || (x10 || x11)))))))))) ∷ []
@@ -38,8 +39,8 @@ abbrev rows : Operation → Chip → List Bool
 rows op c =
     table (row15 op c) (row1 op c) (row2 op c) (row3 op c) (row4 op c) (row5 op c) (row6 op c) (row7 op c) (row8 op c) (row10 op c) (row11 op c)
 
-abbrev told : Reply → List Bool
-told r = map (λ n. eqb (replyNumber r) n) (15 ∷ 1 ∷ 2 ∷ 3 ∷ 4 ∷ 5 ∷ 6 ∷ 7 ∷ 8 ∷ 10 ∷ 11 ∷ 0 ∷ [])
+abbrev marks : ℕ → List Bool
+marks r = map (λ n. eqb r n) (15 ∷ 1 ∷ 2 ∷ 3 ∷ 4 ∷ 5 ∷ 6 ∷ 7 ∷ 8 ∷ 10 ∷ 11 ∷ 0 ∷ [])
 
 -- what the rows ask of an address
 abbrev tests : ℕ → List Bool
@@ -93,8 +94,12 @@ tests-counter a h e =
 
 -- ---- each operation
 
-module _ (a word lines : ℕ) (c : Chip) where
-  written-trigger : (r o s f l w : Bool) → told (cond o (triggerBy (fate s f l w) r (lineOf lines) word c) (replied Lines c) .reply) ≡ writeRows true (false ∷ false ∷ false ∷ true ∷ true ∷ false ∷ []) o s f l w
+-- "lacks room", as the definitions have it
+abbrev short : Chip → ℕ → Bool
+short c a = lacksRoom (leb 112 a) (c .queue)
+
+module _ (a bits lines : ℕ) (c : Chip) where
+  written-trigger : (r o s f l w : Bool) → marks (cond o (triggerBy (fate s f l w) r (lineOf lines) bits c) (replied Lines c) .number) ≡ writeRows true (false ∷ false ∷ false ∷ true ∷ true ∷ false ∷ []) o s f l w
   unfolding triggerBy
   written-trigger r false s f l w = refl
   written-trigger r true false f l w = refl
@@ -103,135 +108,155 @@ module _ (a word lines : ℕ) (c : Chip) where
   written-trigger r true true true true true = refl
   written-trigger r true true true true false = refl
 
-  written : told (writeAt (placeOf a) word lines c .reply) ≡ writeRows true (tests a) (oneLine lines) (c .control .sampling) (passes c a) (lacking c a) (c .control .writewait)
+  written : marks (writeAt (placeOf a) bits lines c .number) ≡ writeRows true (tests a) (oneLine lines) (c .control .sampling) (passes c a) (short c a) (c .control .writewait)
   unfolding writeAt trigger placeOf registerOf
   written = go (ltb 127 a) refl (triggering a) refl
     where
       by : List Bool → List Bool
-      by t = writeRows true t (oneLine lines) (c .control .sampling) (passes c a) (lacking c a) (c .control .writewait)
+      by t = writeRows true t (oneLine lines) (c .control .sampling) (passes c a) (short c a) (c .control .writewait)
 
-      kind : (r : Bool) → told (writeAt (cond r (Resource (a % 16)) (Trace (a % 16))) word lines c .reply) ≡ writeRows true (false ∷ false ∷ false ∷ true ∷ true ∷ false ∷ []) (oneLine lines) (c .control .sampling) (passes c a) (lacksRoom r (c .queue)) (c .control .writewait)
-      kind true = written-trigger true (oneLine lines) (c .control .sampling) (passes c a) (lacksRoom true (c .queue)) (c .control .writewait)
-      kind false = written-trigger false (oneLine lines) (c .control .sampling) (passes c a) (lacksRoom false (c .queue)) (c .control .writewait)
+      kind : (r : Bool) → marks (writeAt (Trigger r (a % 16)) bits lines c .number) ≡ writeRows true (false ∷ false ∷ false ∷ true ∷ true ∷ false ∷ []) (oneLine lines) (c .control .sampling) (passes c a) (lacksRoom r (c .queue)) (c .control .writewait)
+      kind r = written-trigger r (oneLine lines) (c .control .sampling) (passes c a) (lacksRoom r (c .queue)) (c .control .writewait)
 
-      go : (h : Bool) → ltb 127 a ≡ h → (t : Bool) → triggering a ≡ t → told (writeAt (placeOf a) word lines c .reply) ≡ by (tests a)
+      go : (h : Bool) → ltb 127 a ≡ h → (t : Bool) → triggering a ≡ t → marks (writeAt (placeOf a) bits lines c .number) ≡ by (tests a)
       go true p t q =
-          ap (λ (x : Place). told (writeAt x word lines c .reply)) (place-beyond a (ltb-true 127 a p))
+          ap (λ (x : Place). marks (writeAt x bits lines c .number)) (place-beyond a (ltb-true 127 a p))
           ∙ sym (ap by (tests-beyond a (ltb-true 127 a p)))
       go false p true q =
-          ap (λ (x : Place). told (writeAt x word lines c .reply)) (place-trigger a q) ∙ kind (leb 112 a)
+          ap (λ (x : Place). marks (writeAt x bits lines c .number)) (place-trigger a q) ∙ kind (leb 112 a)
           ∙ sym (ap by (tests-trigger a (omega (arith, ltb-false 127 a p)) q))
       go false p false q =
-          same-eq _ _ (or-rest (triggering a) _ (upTo-at 128 (λ b. triggering b || same (told (writeAt (placeOf b) word lines c .reply)) (writeRows true (tests b) (oneLine lines) (c .control .sampling) (passes c b) (lacking c b) (c .control .writewait))) refl a (omega (arith, ltb-false 127 a p))) q)
+          same-eq _ _ (or-rest (triggering a) _ (upTo-at 128 (λ b. triggering b || same (marks (writeAt (placeOf b) bits lines c .number)) (writeRows true (tests b) (oneLine lines) (c .control .sampling) (passes c b) (short c b) (c .control .writewait))) refl a (omega (arith, ltb-false 127 a p))) q)
 
 module _ (a : ℕ) (c : Chip) where
-  counted : (b w : Bool) (x y z : Chip) (v : ℕ) → told (cond b (cond w (replied Wait x) (record { chip = y; value = 2 ^ 63; reply = Busy })) (done v z) .reply) ≡ readRows true (false ∷ false ∷ false ∷ false ∷ false ∷ true ∷ []) b w
+  counted : (b w : Bool) (x y z : Chip) (v : ℕ) → marks (cond b (cond w (replied Wait x) (replied Busy y)) (done v z) .number) ≡ readRows true (false ∷ false ∷ false ∷ false ∷ false ∷ true ∷ []) b w
   counted true true x y z v = refl
   counted true false x y z v = refl
   counted false w x y z v = refl
 
-  seen : told (readAt (placeOf a) c .reply) ≡ readRows true (tests a) (busy (c .queue)) (c .control .readwait)
+  seen : marks (readAt (placeOf a) c .number) ≡ readRows true (tests a) (busy (c .queue)) (c .control .readwait)
   unfolding readAt readCounter placeOf registerOf
   seen = go (ltb 127 a) refl (counterAt a) refl
     where
       by : List Bool → List Bool
       by t = readRows true t (busy (c .queue)) (c .control .readwait)
 
-      go : (h : Bool) → ltb 127 a ≡ h → (t : Bool) → counterAt a ≡ t → told (readAt (placeOf a) c .reply) ≡ by (tests a)
+      go : (h : Bool) → ltb 127 a ≡ h → (t : Bool) → counterAt a ≡ t → marks (readAt (placeOf a) c .number) ≡ by (tests a)
       go true p t q =
-          ap (λ (x : Place). told (readAt x c .reply)) (place-beyond a (ltb-true 127 a p)) ∙ sym (ap by (tests-beyond a (ltb-true 127 a p)))
+          ap (λ (x : Place). marks (readAt x c .number)) (place-beyond a (ltb-true 127 a p)) ∙ sym (ap by (tests-beyond a (ltb-true 127 a p)))
       go false p true q =
-          ap (λ (x : Place). told (readAt x c .reply)) (place-counter a q)
+          ap (λ (x : Place). marks (readAt x c .number)) (place-counter a q)
           ∙ counted (busy (c .queue)) (c .control .readwait) (withControl (waited (c .control)) c) c (withBank (copied (c .bank)) c) (getD (c .bank .values) (a - 32) 0)
           ∙ sym (ap by (tests-counter a (omega (arith, ltb-false 127 a p)) q))
       go false p false q =
-          same-eq _ _ (or-rest (counterAt a) _ (upTo-at 128 (λ b. counterAt b || same (told (readAt (placeOf b) c .reply)) (readRows true (tests b) (busy (c .queue)) (c .control .readwait))) refl a (omega (arith, ltb-false 127 a p))) q)
+          same-eq _ _ (or-rest (counterAt a) _ (upTo-at 128 (λ b. counterAt b || same (marks (readAt (placeOf b) c .number)) (readRows true (tests b) (busy (c .queue)) (c .control .readwait))) refl a (omega (arith, ltb-false 127 a p))) q)
 
 -- 15 is tried first
-told-guarded : (b : Bool) (c : Chip) (x : Answer) (f : Bool → List Bool) → told (x .reply) ≡ f true → told Outside ≡ f false → told (cond b x (replied Outside c) .reply) ≡ f b
-told-guarded b c x f p q = by-bounds (λ t y. told (y .reply) ≡ f t) b c x p q
+marks-guarded : (b : Bool) (c : Chip) (x : Told) (f : Bool → List Bool) → marks (x .number) ≡ f true → marks 15 ≡ f false → marks (cond b x (replied Outside c) .number) ≡ f b
+marks-guarded b c x f p q = by-bounds (λ t y. marks (y .number) ≡ f t) b c x p q
 
 -- where a row can only be 15 or, for a single send, 5
 abbrev fewRows : Bool → Bool → Bool → List Bool
 fewRows x i n =
     table x (i && false) (i && false) (i && false) (i && false) (i && n) (i && false) (i && false) (i && false) (i && false) (i && false)
 
-told-reset : (i : Bool) → told Done ≡ fewRows false i false
-told-reset true = refl
-told-reset false = refl
+marks-reset : (i : Bool) → marks 0 ≡ fewRows false i false
+marks-reset true = refl
+marks-reset false = refl
 
-told-done : (i : Bool) (c d : Chip) (v : ℕ) → told (cond i (done v d) (replied Outside c) .reply) ≡ fewRows (not i) i false
-told-done true c d v = refl
-told-done false c d v = refl
+marks-done : (i : Bool) (c d : Chip) (v : ℕ) → marks (cond i (done v d) (replied Outside c) .number) ≡ fewRows (not i) i false
+marks-done true c d v = refl
+marks-done false c d v = refl
 
-told-sent : (i n : Bool) (c d : Chip) (v : ℕ) → told (cond i (cond n (replied NoWord c) (done v d)) (replied Outside c) .reply) ≡ fewRows (not i) i n
-told-sent true true c d v = refl
-told-sent true false c d v = refl
-told-sent false n c d v = refl
+marks-sent : (i n : Bool) (c d : Chip) (v : ℕ) → marks (cond i (cond n (replied NoWord c) (done v d)) (replied Outside c) .number) ≡ fewRows (not i) i n
+marks-sent true true c d v = refl
+marks-sent true false c d v = refl
+marks-sent false n c d v = refl
 
 -- every operation
-all-rows : (op : Operation) (c : Chip) → told (step op c .reply) ≡ rows op c
+all-rows : (op : Operation) (c : Chip) → marks (step op c .number) ≡ rows op c
 unfolding write read timestampTicks nodeTicks externalEvents send sendInto
-all-rows opReset c = told-reset (inside c)
-all-rows (opWrite a word lines) c =
-    told-guarded (inside c) c (writeAt (placeOf a) word lines c)
-    (λ i. writeRows i (tests a) (oneLine lines) (c .control .sampling) (passes c a) (lacking c a) (c .control .writewait))
-    (written a word lines c) refl
-    ∙ ap (λ (o : Bool). writeRows (inside c) (tests a) o (c .control .sampling) (passes c a) (lacking c a) (c .control .writewait)) (one-line lines)
+all-rows opReset c = marks-reset (inside c)
+all-rows (opWrite a bits lines) c =
+    marks-guarded (inside c) c (writeAt (placeOf a) bits lines c)
+    (λ i. writeRows i (tests a) (oneLine lines) (c .control .sampling) (passes c a) (short c a) (c .control .writewait))
+    (written a bits lines c) refl
+    ∙ ap₂ (λ (o l : Bool). writeRows (inside c) (tests a) o (c .control .sampling) (passes c a) l (c .control .writewait)) (one-line lines) (rows-room c a)
 all-rows (opRead a) c =
-    told-guarded (inside c) c (readAt (placeOf a) c) (λ i. readRows i (tests a) (busy (c .queue)) (c .control .readwait)) (seen a c) refl
-all-rows (opTicks k) c = told-done (inside c) c _ 0
-all-rows (opNodes k) c = told-done (inside c) c _ 0
-all-rows (opEvents mask) c = told-done (inside c) c _ 0
-all-rows opSend c = told-sent (inside c) (eqb (c .queue .held) 0) c _ _
-all-rows (opFill room) c = told-done (inside c) c _ _
+    marks-guarded (inside c) c (readAt (placeOf a) c) (λ i. readRows i (tests a) (busy (c .queue)) (c .control .readwait)) (seen a c) refl
+    ∙ ap (λ (b : Bool). readRows (inside c) (tests a) b (c .control .readwait)) (rows-busy c)
+all-rows (opTicks k) c = marks-done (inside c) c _ 0
+all-rows (opNodes k) c = marks-done (inside c) c _ 0
+all-rows (opEvents mask) c = marks-done (inside c) c _ 0
+all-rows opSend c = marks-sent (inside c) (eqb (c .queue .held) 0) c _ _
+all-rows (opFill room) c = marks-done (inside c) c _ _
 
 -- ---- the rows
 
 module _ (op : Operation) (c : Chip) where
-  row-at : (k : ℕ) → getD (told (step op c .reply)) k false ≡ getD (rows op c) k false
+  row-at : (k : ℕ) → getD (marks (step op c .number)) k false ≡ getD (rows op c) k false
   row-at k = ap (λ (l : List Bool). getD l k false) (all-rows op c)
 
-  pub reply-15 : eqb (replyNumber (step op c .reply)) 15 ≡ row15 op c
+  pub reply-15 : eqb (step op c .number) 15 ≡ row15 op c
   reply-15 = row-at 0
 
-  pub reply-1 : eqb (replyNumber (step op c .reply)) 1 ≡ row1 op c
+  pub reply-1 : eqb (step op c .number) 1 ≡ row1 op c
   reply-1 = row-at 1
 
-  pub reply-2 : eqb (replyNumber (step op c .reply)) 2 ≡ row2 op c
+  pub reply-2 : eqb (step op c .number) 2 ≡ row2 op c
   reply-2 = row-at 2
 
-  pub reply-3 : eqb (replyNumber (step op c .reply)) 3 ≡ row3 op c
+  pub reply-3 : eqb (step op c .number) 3 ≡ row3 op c
   reply-3 = row-at 3
 
-  pub reply-4 : eqb (replyNumber (step op c .reply)) 4 ≡ row4 op c
+  pub reply-4 : eqb (step op c .number) 4 ≡ row4 op c
   reply-4 = row-at 4
 
-  pub reply-5 : eqb (replyNumber (step op c .reply)) 5 ≡ row5 op c
+  pub reply-5 : eqb (step op c .number) 5 ≡ row5 op c
   reply-5 = row-at 5
 
-  pub reply-6 : eqb (replyNumber (step op c .reply)) 6 ≡ row6 op c
+  pub reply-6 : eqb (step op c .number) 6 ≡ row6 op c
   reply-6 = row-at 6
 
-  pub reply-7 : eqb (replyNumber (step op c .reply)) 7 ≡ row7 op c
+  pub reply-7 : eqb (step op c .number) 7 ≡ row7 op c
   reply-7 = row-at 7
 
-  pub reply-8 : eqb (replyNumber (step op c .reply)) 8 ≡ row8 op c
+  pub reply-8 : eqb (step op c .number) 8 ≡ row8 op c
   reply-8 = row-at 8
 
-  pub reply-10 : eqb (replyNumber (step op c .reply)) 10 ≡ row10 op c
+  pub reply-10 : eqb (step op c .number) 10 ≡ row10 op c
   reply-10 = row-at 9
 
-  pub reply-11 : eqb (replyNumber (step op c .reply)) 11 ≡ row11 op c
+  pub reply-11 : eqb (step op c .number) 11 ≡ row11 op c
   reply-11 = row-at 10
 
-  pub reply-0 : eqb (replyNumber (step op c .reply)) 0 ≡ row0 op c
+  pub reply-0 : eqb (step op c .number) 0 ≡ row0 op c
   reply-0 = row-at 11
 
-  -- "Any two replies allowed by a promise are shown equal": each operation's promise is an equation with `step`
-  pub one-answer : (a b : Answer) → a ≡ step op c → b ≡ step op c → a ≡ b
-  one-answer a b p q = p ∙ sym q
+-- ---- "Any two replies allowed by a promise are shown equal"
 
-  -- and of a lent buffer an equation with `sentBuffer`
-  pub one-buffer : (out a b : List ℕ) → a ≡ sentBuffer c out → b ≡ sentBuffer c out → a ≡ b
-  one-buffer out a b p q = p ∙ sym q
+-- the table gives each reply a number of its own
+byNumber : ℕ → Reply
+byNumber n =
+    getD (Done ∷ TooHigh ∷ Nothing ∷ Forbidden ∷ Lines ∷ NoWord ∷ Off ∷ Filtered ∷ Lost ∷ Outside ∷ Wait ∷ Busy ∷ []) n Outside
+
+number-own : (r : Reply) → byNumber (replyNumber r) ≡ r
+unfolding byNumber
+number-own Done = refl
+number-own TooHigh = refl
+number-own Nothing = refl
+number-own Forbidden = refl
+number-own Lines = refl
+number-own NoWord = refl
+number-own Off = refl
+number-own Filtered = refl
+number-own Lost = refl
+number-own Wait = refl
+number-own Busy = refl
+number-own Outside = refl
+
+-- so an operation's promise, `told r` equal to a definition, leaves one answer; a lent buffer's is an equation with the whole buffer
+pub one-answer : (a b : Answer) → told a ≡ told b → a ≡ b
+one-answer a b e =
+    let reply : a .reply ≡ b .reply = sym (number-own (a .reply)) ∙ ap (λ (t : Told). byNumber (t .number)) e ∙ number-own (b .reply) in
+    λ i. record { chip = e i .chip; value = e i .value; reply = reply i }

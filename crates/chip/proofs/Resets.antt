@@ -18,11 +18,11 @@ pub reset-record : (c : Chip) → softReset c ≡ withStamp (c .stamp) fresh
 reset-record c = refl
 
 -- "Software reset. Everything becomes as after a hardware reset except the Timestamp"
-pub soft-reset : (word lines : ℕ) (c : Chip) → inside c ≡ true → step (opWrite 0 word lines) c ≡ done 0 (withStamp (c .stamp) fresh)
+pub soft-reset : (bits lines : ℕ) (c : Chip) → inside c ≡ true → step (opWrite 0 bits lines) c ≡ done 0 (withStamp (c .stamp) fresh)
 unfolding write writeAt placeOf registerOf
-soft-reset word lines c h = sym (guard-in c (done 0 (softReset c)) h) ∙ ap (done 0) (reset-record c)
+soft-reset bits lines c h = sym (guard-in c (done 0 (softReset c)) h) ∙ ap (done 0) (reset-record c)
 
 -- so of two records nothing but the Timestamp can be read after it
-pub soft-reset-same : (word lines word′ lines′ : ℕ) (c d : Chip) → inside c ≡ true → inside d ≡ true → c .stamp ≡ d .stamp → step (opWrite 0 word lines) c ≡ step (opWrite 0 word′ lines′) d
-soft-reset-same word lines word′ lines′ c d h k e =
-    soft-reset word lines c h ∙ ap (λ (n : ℕ). done 0 (withStamp n fresh)) e ∙ sym (soft-reset word′ lines′ d k)
+pub soft-reset-same : (bits lines bits′ lines′ : ℕ) (c d : Chip) → inside c ≡ true → inside d ≡ true → c .stamp ≡ d .stamp → step (opWrite 0 bits lines) c ≡ step (opWrite 0 bits′ lines′) d
+soft-reset-same bits lines bits′ lines′ c d h k e =
+    soft-reset bits lines c h ∙ ap (λ (n : ℕ). done 0 (withStamp n fresh)) e ∙ sym (soft-reset bits′ lines′ d k)

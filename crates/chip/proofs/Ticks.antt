@@ -1,43 +1,54 @@
--- A count of k ticks does what k single ticks do, for both clocks: j ticks and then k are j + k. Assumes nothing.
+-- A count of k ticks does what k single ticks do, for both clocks: j ticks and then k are j + k, and outside the bounds no tick counts.
+-- Assumes the lengths and widths that the types give.
 use Prim.Native.Nat.{ℕ, zero, suc, _+_, _/_, _%_, _^_}
 use native.Mathlib.Nat.{add-comm}
 use native.Mathlib.Numerals.{add-one}
 use native.Mathlib.Omega.{arith}
-use mathlib.Core.Path.{_≡_, sym, ap, _∙_}
-use mathlib.Core.Bool.{true}
+use mathlib.Core.Path.{_≡_, refl, sym, ap, _∙_}
+use mathlib.Core.Bool.{Bool, true, false, cond}
 use Rattle.counters.specs.Due.{due, slowEvents, ticked}
 use Rattle.counters.specs.declared.bank.Bank.{Bank}
 use Rattle.counters.specs.declared.switches.Kind.the-variants.{Slow, Node}
 use Rattle.counters.proofs.TickLaws.{counting-none, counting-twice}
-use Rattle.chip.specs.Chip.{afterTicks, done, inside, nodeTicks, timestampTicks, withBank}
+use Rattle.chip.specs.Chip.{afterTicks, done, guarded, inside, nodeTicks, replied, timestampTicks, withBank}
 use Rattle.chip.specs.Operation.{Operation, opNodes, opTicks, step}
 use Rattle.chip.specs.Repeat.{repeat}
+use Rattle.chip.specs.Reply.{Told}
 use Rattle.chip.specs.Shape.{Shaped}
-use Rattle.chip.specs.declared.chip.Answer.{Answer}
 use Rattle.chip.specs.declared.chip.Chip.{Chip}
-use Rattle.chip.proofs.Bounds.{keeps-inside, keeps-shaped}
-use Rattle.chip.proofs.ChipLaws.{inside-phase, inside-stamp}
-use Rattle.chip.proofs.ChipLaws.{guard-in}
+use Rattle.chip.specs.declared.reply.Reply.the-variants.{Outside}
+use Rattle.chip.proofs.Bounds.{keeps-inside, keeps-shaped, repeat-same}
+use Rattle.chip.proofs.ChipLaws.{guard-in, guard-out, inside-phase, inside-stamp}
 use Rattle.chip.proofs.WidthLaws.{within-at}
 
--- an operation with a count that adds up, and does nothing at 0
-repeated : (op : ℕ → Operation) (after : ℕ → Chip → Chip) → ((k : ℕ) (c : Chip) → inside c ≡ true → step (op k) c .chip ≡ after k c) → ((c : Chip) → inside c ≡ true → Shaped c → after 0 c ≡ c) → ((j k : ℕ) (c : Chip) → after k (after j c) ≡ after (j + k) c) → (k : ℕ) (c : Chip) → inside c ≡ true → Shaped c → step (op k) c .chip ≡ repeat k (op 1) c
-unfolding repeat
-repeated op after is none sum zero c h s = is 0 c h ∙ none c h s
-repeated op after is none sum (suc k) c h s =
-    let one : step (op 1) c .chip ≡ after 1 c = is 1 c h in
-    is (suc k) c h
-    ∙ ap (λ (n : ℕ). after n c) (sym (add-one k) ∙ add-comm k 1)
-    ∙ sym (sum 1 k c)
-    ∙ ap (after k) (sym one)
-    ∙ sym (is k (step (op 1) c .chip) (keeps-inside (op 1) c h))
-    ∙ repeated op after is none sum k (step (op 1) c .chip) (keeps-inside (op 1) c h) (keeps-shaped (op 1) c s)
+-- an operation with a count that adds up and does nothing at 0 does what single ones do; outside the bounds each leaves the record
+module _ (op : ℕ → Operation) (after : ℕ → Chip → Chip) (is : (k : ℕ) (c : Chip) → step (op k) c ≡ guarded c (done 0 (after k c))) (none : (c : Chip) → inside c ≡ true → Shaped c → after 0 c ≡ c) (sum : (j k : ℕ) (c : Chip) → after k (after j c) ≡ after (j + k) c) where
+  answer-in : (k : ℕ) (c : Chip) → inside c ≡ true → step (op k) c ≡ done 0 (after k c)
+  answer-in k c h = is k c ∙ sym (guard-in c (done 0 (after k c)) h)
+
+  chip-in : (k : ℕ) (c : Chip) → inside c ≡ true → step (op k) c .chip ≡ after k c
+  chip-in k c h = ap (λ (a : Told). a .chip) (answer-in k c h)
+
+  repeated : (k : ℕ) (c : Chip) → inside c ≡ true → Shaped c → after k c ≡ repeat k (op 1) c
+  unfolding repeat
+  repeated zero c h s = none c h s
+  repeated (suc k) c h s =
+      let next : Chip = step (op 1) c .chip in
+      ap (λ (n : ℕ). after n c) (sym (add-one k) ∙ add-comm k 1)
+      ∙ sym (sum 1 k c)
+      ∙ ap (after k) (sym (chip-in 1 c h))
+      ∙ repeated k next (keeps-inside (op 1) c h) (keeps-shaped (op 1) c s)
+
+  single : (k : ℕ) (c : Chip) → Shaped c → step (op k) c ≡ record { chip = repeat k (op 1) c; number = cond (inside c) 0 15; value = 0 }
+  single k c s = go (inside c) refl
+    where
+      go : (b : Bool) → inside c ≡ b → step (op k) c ≡ record { chip = repeat k (op 1) c; number = cond b 0 15; value = 0 }
+      go true h = answer-in k c h ∙ ap (done 0) (repeated k c h s)
+      go false h =
+          let out : (n : ℕ) → step (op n) c ≡ replied Outside c = λ n. is n c ∙ sym (guard-out c (done 0 (after n c)) h) in
+          out k ∙ ap (replied Outside) (sym (repeat-same k (op 1) c (ap (λ (a : Told). a .chip) (out 1))))
 
 -- ---- the Timestamp's clock
-
-ticks-answer : (k : ℕ) (c : Chip) → inside c ≡ true → step (opTicks k) c ≡ done 0 (afterTicks k c)
-unfolding timestampTicks
-ticks-answer k c h = sym (guard-in c (done 0 (afterTicks k c)) h)
 
 ticks-none : (c : Chip) → inside c ≡ true → Shaped c → afterTicks 0 c ≡ c
 ticks-none c h s =
@@ -65,10 +76,6 @@ ticks-sum j k c =
 afterNodes : ℕ → Chip → Chip
 afterNodes k c = withBank (ticked Node k (c .switches) (c .bank)) c
 
-nodes-answer : (k : ℕ) (c : Chip) → inside c ≡ true → step (opNodes k) c ≡ done 0 (afterNodes k c)
-unfolding nodeTicks afterNodes
-nodes-answer k c h = sym (guard-in c (done 0 (withBank (ticked Node k (c .switches) (c .bank)) c)) h)
-
 nodes-none : (c : Chip) → inside c ≡ true → Shaped c → afterNodes 0 c ≡ c
 unfolding afterNodes
 nodes-none c h s = ap (λ (b : Bank). withBank b c) (counting-none (due Node (c .switches)) (c .bank) (within-at 4 16 (c .bank .values) (s .values)))
@@ -79,15 +86,11 @@ nodes-sum j k c = ap (λ (b : Bank). withBank b c) (counting-twice (due Node (c 
 
 -- ---- "A count of k does what k single ticks do"
 
-module _ (k : ℕ) (c : Chip) (h : inside c ≡ true) (s : Shaped c) where
-  ticks-chip : step (opTicks k) c .chip ≡ repeat k (opTicks 1) c
-  ticks-chip = repeated opTicks afterTicks (λ n d e. ap (λ (a : Answer). a .chip) (ticks-answer n d e)) ticks-none ticks-sum k c h s
+module _ (k : ℕ) (c : Chip) (s : Shaped c) where
+  pub ticks-single : step (opTicks k) c ≡ record { chip = repeat k (opTicks 1) c; number = cond (inside c) 0 15; value = 0 }
+  unfolding timestampTicks
+  ticks-single = single opTicks afterTicks (λ n d. refl) ticks-none ticks-sum k c s
 
-  nodes-chip : step (opNodes k) c .chip ≡ repeat k (opNodes 1) c
-  nodes-chip = repeated opNodes afterNodes (λ n d e. ap (λ (a : Answer). a .chip) (nodes-answer n d e)) nodes-none nodes-sum k c h s
-
-  pub ticks-single : step (opTicks k) c ≡ done 0 (repeat k (opTicks 1) c)
-  ticks-single = ticks-answer k c h ∙ ap (done 0) (sym (ap (λ (a : Answer). a .chip) (ticks-answer k c h)) ∙ ticks-chip)
-
-  pub nodes-single : step (opNodes k) c ≡ done 0 (repeat k (opNodes 1) c)
-  nodes-single = nodes-answer k c h ∙ ap (done 0) (sym (ap (λ (a : Answer). a .chip) (nodes-answer k c h)) ∙ nodes-chip)
+  pub nodes-single : step (opNodes k) c ≡ record { chip = repeat k (opNodes 1) c; number = cond (inside c) 0 15; value = 0 }
+  unfolding nodeTicks afterNodes
+  nodes-single = single opNodes afterNodes (λ n d. refl) nodes-none nodes-sum k c s

@@ -10,9 +10,9 @@ use lib.ListN.{drop, length, replicate, take, length-drop}
 use lib.Seq.{length-take-le}
 use borrow.Author.Tests.{eq-eqb, lt-ltb, ne-eqb}
 use Rattle.samples.specs.Layout.{counterWidths, firstChip, resource, sampleLength, sampleWords}
-use Rattle.samples.specs.Read.{readPart}
+use Rattle.samples.specs.Read.{foundBy, readPart}
 use Rattle.samples.specs.Write.{allZero, within, writable}
-use Rattle.samples.specs.declared.reader.Answer.the-variants.{Good}
+use Rattle.samples.specs.declared.reader.Verdict.the-variants.{Good}
 use Rattle.samples.proofs.RoundTrip.{within-length}
 use Rattle.samples.proofs.SampleLaws.{sample-length}
 use Rattle.samples.proofs.Theorems.{read-written, within-kind, zeros-kind}
@@ -24,7 +24,6 @@ use Rattle.queue.proofs.QueueLaws.{held-sixteen}
 use Rattle.chip.specs.Chip.{done, fateOf, headerOf, inside, lineOf, oneLine, replied, sampleNow, takeSample, trigger, triggerBy, write, writeAt}
 use Rattle.chip.specs.Fate.{Fate, isOff, isFiltered, isLost, isTold, isTaken}
 use Rattle.chip.specs.Place.{placeOf}
-use Rattle.chip.specs.Reply.{replyNumber}
 use Rattle.chip.specs.Rows.{oneActive, triggering}
 use Rattle.chip.specs.Sent.{firstWords, takenSample}
 use Rattle.chip.specs.Operation.{opSend, opWrite, step}
@@ -32,9 +31,8 @@ use Rattle.chip.specs.Repeat.{given}
 use Rattle.chip.specs.Shape.{Shaped}
 use Rattle.chip.specs.declared.chip.Chip.{Chip}
 use Rattle.chip.specs.declared.place.Place.{Place}
-use Rattle.chip.specs.declared.place.Place.the-variants.{Trace, Resource}
-use Rattle.chip.specs.declared.reply.Reply.{Reply}
-use Rattle.chip.specs.declared.reply.Reply.the-variants.{Done, Lines, Off, Filtered, Lost, Wait, Outside}
+use Rattle.chip.specs.declared.place.Place.the-variants.{Trigger}
+use Rattle.chip.specs.declared.reply.Reply.the-variants.{Lines, Outside}
 use Rattle.chip.proofs.AddressLaws.{place-trigger}
 use Rattle.chip.proofs.LineLaws.{one-line}
 use Rattle.chip.proofs.Sends.{given-sends}
@@ -83,10 +81,10 @@ held-writable shadows x h s t u w =
     let zeros : (resource (x .header) || allZero (cond (resource (x .header)) shadows (replicate 16 0))) ≡ true = zeros-kind (resource (x .header)) shadows in
     λ i. (header i && (source i && (stamp i && (user i && true)))) && (counters i && (small i && zeros i))
 
-module _ (r : Bool) (line word : ℕ) (c : Chip) (small : line < 8) (s : Shaped c) where
-  pub taken-writable : writable firstChip (takenSample r line word c) ≡ true
+module _ (r : Bool) (line bits : ℕ) (c : Chip) (small : line < 8) (s : Shaped c) where
+  pub taken-writable : writable firstChip (takenSample r line bits c) ≡ true
   taken-writable =
-      held-writable (takeSample r line word c .bank .shadows) (sampleNow r line word c) (header-small line small r (c .control .lost)) (within-at 4 8 (c .sources) (s .sources) line) (omega arith) (omega arith)
+      held-writable (takeSample r line bits c .bank .shadows) (sampleNow r line bits c) (header-small line small r (c .control .lost)) (within-at 4 8 (c .sources) (s .sources) line) (omega arith) (omega arith)
       (λ e. copy r (sym (header-kind line small r (c .control .lost)) ∙ e))
     where
       copy : (k : Bool) → k ≡ true → within counterWidths (cond k (copied (c .bank)) (c .bank) .shadows) ≡ true
@@ -94,35 +92,34 @@ module _ (r : Bool) (line word : ℕ) (c : Chip) (small : line < 8) (s : Shaped 
       copy false e = s .shadows
 
   -- so the reader gives it back from its words, whatever comes after them
-  pub taken-read : (rest : List ℕ) → readPart firstChip (sampleWords firstChip (takenSample r line word c) ++ rest) ≡ record { sample = takenSample r line word c; count = sampleLength firstChip r; answer = Good }
+  pub taken-read : (rest : List ℕ) → readPart firstChip (sampleWords firstChip (takenSample r line bits c) ++ rest) ≡ foundBy Good (takenSample r line bits c) (sampleLength firstChip r)
   taken-read rest =
-      read-written firstChip (takenSample r line word c) rest taken-writable
-      ∙ ap (λ (k : Bool). record { sample = takenSample r line word c; count = sampleLength firstChip k; answer = Good }) (header-kind line small r (c .control .lost))
+      read-written firstChip (takenSample r line bits c) rest taken-writable
+      ∙ ap (λ (k : Bool). foundBy Good (takenSample r line bits c) (sampleLength firstChip k)) (header-kind line small r (c .control .lost))
 
 -- ---- "0 .. sample taken"
 
-differ : (x : Reply) → x ≡ Done → (eqb (replyNumber x) 0 ≡ false) → ⊥
-differ x e p = false≢true (sym p ∙ ap (λ (y : Reply). eqb (replyNumber y) 0) e)
+differ : (n : ℕ) → n ≡ 0 → eqb n 0 ≡ false → ⊥
+differ n e p = false≢true (sym p ∙ ap (λ (m : ℕ). eqb m 0) e)
 
-trigger-done : (o r : Bool) (f : Fate) (line word : ℕ) (c : Chip) → cond o (triggerBy f r line word c) (replied Lines c) .reply ≡ Done → (cond o (triggerBy f r line word c) (replied Lines c) ≡ done 0 (takeSample r line word c)) × (o ≡ true)
+trigger-done : (o r : Bool) (f : Fate) (line bits : ℕ) (c : Chip) → cond o (triggerBy f r line bits c) (replied Lines c) .number ≡ 0 → (cond o (triggerBy f r line bits c) (replied Lines c) ≡ done 0 (takeSample r line bits c)) × (o ≡ true)
 unfolding triggerBy
-trigger-done false r f line word c e = absurd (differ Lines e refl)
-trigger-done true r isOff line word c e = absurd (differ Off e refl)
-trigger-done true r isFiltered line word c e = absurd (differ Filtered e refl)
-trigger-done true r isLost line word c e = absurd (differ Lost e refl)
-trigger-done true r isTold line word c e = absurd (differ Wait e refl)
-trigger-done true r isTaken line word c e = (refl, refl)
+trigger-done false r f line bits c e = absurd (differ 4 e refl)
+trigger-done true r isOff line bits c e = absurd (differ 6 e refl)
+trigger-done true r isFiltered line bits c e = absurd (differ 7 e refl)
+trigger-done true r isLost line bits c e = absurd (differ 8 e refl)
+trigger-done true r isTold line bits c e = absurd (differ 10 e refl)
+trigger-done true r isTaken line bits c e = (refl, refl)
 
 -- a trigger with reply 0 has exactly one active line and takes a sample
-pub trigger-takes : (a word lines : ℕ) (c : Chip) → triggering a ≡ true → step (opWrite a word lines) c .reply ≡ Done → (step (opWrite a word lines) c ≡ done 0 (takeSample (leb 112 a) (lineOf lines) word c)) × (oneActive lines ≡ true)
+pub trigger-takes : (a bits lines : ℕ) (c : Chip) → triggering a ≡ true → step (opWrite a bits lines) c .number ≡ 0 → (step (opWrite a bits lines) c ≡ done 0 (takeSample (leb 112 a) (lineOf lines) bits c)) × (oneActive lines ≡ true)
 unfolding write writeAt trigger
-trigger-takes a word lines c t e = guard (inside c) e
+trigger-takes a bits lines c t e = guard (inside c) e
   where
-    kind : (r : Bool) → writeAt (cond r (Resource (a % 16)) (Trace (a % 16))) word lines c .reply ≡ Done → (writeAt (cond r (Resource (a % 16)) (Trace (a % 16))) word lines c ≡ done 0 (takeSample r (lineOf lines) word c)) × (oneActive lines ≡ true)
-    kind true q = let p = trigger-done (oneLine lines) true (fateOf true (a % 16) c) (lineOf lines) word c q in (p .0, sym (one-line lines) ∙ p .1)
-    kind false q = let p = trigger-done (oneLine lines) false (fateOf false (a % 16) c) (lineOf lines) word c q in (p .0, sym (one-line lines) ∙ p .1)
+    kind : (r : Bool) → writeAt (Trigger r (a % 16)) bits lines c .number ≡ 0 → (writeAt (Trigger r (a % 16)) bits lines c ≡ done 0 (takeSample r (lineOf lines) bits c)) × (oneActive lines ≡ true)
+    kind r q = let p = trigger-done (oneLine lines) r (fateOf r (a % 16) c) (lineOf lines) bits c q in (p .0, sym (one-line lines) ∙ p .1)
 
-    guard : (b : Bool) → cond b (writeAt (placeOf a) word lines c) (replied Outside c) .reply ≡ Done → (cond b (writeAt (placeOf a) word lines c) (replied Outside c) ≡ done 0 (takeSample (leb 112 a) (lineOf lines) word c)) × (oneActive lines ≡ true)
-    guard false q = absurd (differ Outside q refl)
+    guard : (b : Bool) → cond b (writeAt (placeOf a) bits lines c) (replied Outside c) .number ≡ 0 → (cond b (writeAt (placeOf a) bits lines c) (replied Outside c) ≡ done 0 (takeSample (leb 112 a) (lineOf lines) bits c)) × (oneActive lines ≡ true)
+    guard false q = absurd (differ 15 q refl)
     guard true q =
-        subst (λ (p : Place). writeAt p word lines c .reply ≡ Done → (writeAt p word lines c ≡ done 0 (takeSample (leb 112 a) (lineOf lines) word c)) × (oneActive lines ≡ true)) (sym (place-trigger a t)) (kind (leb 112 a)) q
+        subst (λ (p : Place). writeAt p bits lines c .number ≡ 0 → (writeAt p bits lines c ≡ done 0 (takeSample (leb 112 a) (lineOf lines) bits c)) × (oneActive lines ≡ true)) (sym (place-trigger a t)) (kind (leb 112 a)) q

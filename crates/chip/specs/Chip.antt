@@ -5,8 +5,8 @@ use mathlib.Core.List.{List}
 use lib.Count.{onesIn, trailingZeros}
 use lib.Dec.{ltb, eqb}
 use lib.ListN.{getD, set, replicate}
-use Rattle.counters.specs.Bank.{bit, cleared, copied}
-use Rattle.counters.specs.Due.{disabling, enabling, fired, selecting, selection, signalled, slowEvents, ticked, ticking}
+use Rattle.counters.specs.Bank.{bit, cleared, copied, zeroBank}
+use Rattle.counters.specs.Due.{disabling, enabling, fired, selecting, selection, signalled, slowEvents, ticked, ticking, zeroSwitches}
 use Rattle.counters.specs.declared.bank.Bank.{Bank}
 use Rattle.counters.specs.declared.switches.Switches.{Switches}
 use Rattle.counters.specs.declared.switches.Kind.the-variants.{Slow, Node}
@@ -16,11 +16,11 @@ use Rattle.queue.specs.declared.queue.Queue.{Queue}
 use Rattle.chip.specs.Control.{configured, csrOf, filtering, noControl, one, overran, taken, overrunsCleared, waitsCleared, waited}
 use Rattle.chip.specs.Fate.{Fate, fate, isOff, isFiltered, isLost, isTold, isTaken}
 use Rattle.chip.specs.Place.{placeOf}
-use Rattle.chip.specs.declared.chip.Answer.{Answer}
+use Rattle.chip.specs.Reply.{Told, rowOf, toldRow}
 use Rattle.chip.specs.declared.chip.Chip.{Chip}
 use Rattle.chip.specs.declared.control.Control.{Control}
 use Rattle.chip.specs.declared.place.Place.{Place}
-use Rattle.chip.specs.declared.place.Place.the-variants.{Beyond, Nowhere, Reset, Csr, Timestamp, Filter, Waits, Overruns, Mux, Clear, Enable, Disable, Source, Counter, Trace, Resource}
+use Rattle.chip.specs.declared.place.Place.the-variants.{Beyond, Nowhere, Reset, Csr, Timestamp, Filter, Waits, Overruns, Mux, Clear, Enable, Disable, Source, Counter, Trigger}
 use Rattle.chip.specs.declared.reply.Reply.{Reply}
 use Rattle.chip.specs.declared.reply.Reply.the-variants.{Done, TooHigh, Nothing, Forbidden, Lines, NoWord, Off, Filtered, Lost, Wait, Busy, Outside}
 
@@ -52,10 +52,10 @@ fresh =
     record {
       stamp = 0;
       queue = emptyQueue;
-      bank = record { values = replicate 16 0; shadows = replicate 16 0 };
+      bank = zeroBank;
       sources = replicate 8 0;
       control = noControl;
-      switches = record { enabled = 0; low = 0; high = 0; phase = 0 };
+      switches = zeroSwitches;
     }
 
 -- "Everything becomes as after a hardware reset except the Timestamp"
@@ -64,19 +64,19 @@ softReset c = withStamp (c .stamp) fresh
 
 -- ---- answers, by "Reply numbers"
 
--- "done": the next record with a value; and a record with another reply and the value 0
-abbrev pub done : ℕ → Chip → Answer
-done value c = record { chip = c; value = value; reply = Done }
+-- "done": the next record with a value; and a record with another reply
+abbrev pub done : ℕ → Chip → Told
+done value c = toldRow (rowOf Done value) c
 
-abbrev pub replied : Reply → Chip → Answer
-replied r c = record { chip = c; value = 0; reply = r }
+abbrev pub replied : Reply → Chip → Told
+replied r c = toldRow (rowOf r 0) c
 
 -- the bounds of reply 15: "queue counts, .. phase, field widths"
 abbrev pub inside : Chip → Bool
 inside c = insideQueue (c .queue) && (ltb (c .switches .phase) 10 && ltb (c .stamp) (2 ^ 56))
 
 -- 15 is tried first, at "any operation but hardware reset"
-abbrev pub guarded : Chip → Answer → Answer
+abbrev pub guarded : Chip → Told → Told
 guarded c a = cond (inside c) a (replied Outside c)
 
 -- ---- triggers, by "Triggers and the queue" and, of the sample, "Sample and words"
@@ -103,9 +103,9 @@ headerOf line resource lost = line + 8 * one resource + 16 * one lost
 -- "A taken sample fixes its fields at the trigger": "Timestamp low 40 bits", "user data low 48 bits"; "The Source Address is that
 -- line's register"
 abbrev pub sampleNow : Bool → ℕ → ℕ → Chip → Held
-sampleNow resource line word c =
+sampleNow resource line bits c =
     record {
-      user = word % 2 ^ 48;
+      user = bits % 2 ^ 48;
       stamp = c .stamp % 2 ^ 40;
       source = getD (c .sources) line 0;
       header = headerOf line resource (c .control .lost);
@@ -113,10 +113,10 @@ sampleNow resource line word c =
 
 -- "a Resource trigger also copies all counters to the shadows. Then the lost mark is cleared"
 abbrev pub takeSample : Bool → ℕ → ℕ → Chip → Chip
-takeSample resource line word c =
+takeSample resource line bits c =
     record {
       stamp = c .stamp;
-      queue = pushed (sampleNow resource line word c) (c .queue);
+      queue = pushed (sampleNow resource line bits c) (c .queue);
       bank = cond resource (copied (c .bank)) (c .bank);
       sources = c .sources;
       control = taken (c .control);
@@ -124,13 +124,13 @@ takeSample resource line word c =
     }
 
 -- the table's rows 6, 7, 8 ("overrun rules"), 10 ("Wait Counter + 1") and 0 ("sample taken")
-unfoldable pub triggerBy : Fate → Bool → ℕ → ℕ → Chip → Answer
-triggerBy isOff resource line word c = replied Off c
-triggerBy isFiltered resource line word c = replied Filtered c
-triggerBy isLost resource line word c =
+unfoldable pub triggerBy : Fate → Bool → ℕ → ℕ → Chip → Told
+triggerBy isOff resource line bits c = replied Off c
+triggerBy isFiltered resource line bits c = replied Filtered c
+triggerBy isLost resource line bits c =
     replied Lost (withControl (overran (full (c .queue)) (blocked resource (c .queue)) (c .control)) c)
-triggerBy isTold resource line word c = replied Wait (withControl (waited (c .control)) c)
-triggerBy isTaken resource line word c = done 0 (takeSample resource line word c)
+triggerBy isTold resource line bits c = replied Wait (withControl (waited (c .control)) c)
+triggerBy isTaken resource line bits c = done 0 (takeSample resource line bits c)
 
 -- by sampling, the level's bit of the Filter, room and write wait
 abbrev pub fateOf : Bool → ℕ → Chip → Fate
@@ -138,41 +138,40 @@ fateOf resource level c =
     fate (c .control .sampling) (bit (c .control .filter) level) (lacksRoom resource (c .queue)) (c .control .writewait)
 
 -- "4 trigger without exactly one active processor line", before 6, 7, 8 or 10
-unfoldable pub trigger : Bool → ℕ → ℕ → ℕ → Chip → Answer
-trigger resource level word lines c =
-    cond (oneLine lines) (triggerBy (fateOf resource level c) resource (lineOf lines) word c) (replied Lines c)
+unfoldable pub trigger : Bool → ℕ → ℕ → ℕ → Chip → Told
+trigger resource level bits lines c =
+    cond (oneLine lines) (triggerBy (fateOf resource level c) resource (lineOf lines) bits c) (replied Lines c)
 
 -- ---- writes and reads, by "Address map", its columns "Write" and "Read"; reads of counters by "Counters"
 
-unfoldable pub writeAt : Place → ℕ → ℕ → Chip → Answer
-writeAt Beyond word lines c = replied TooHigh c
-writeAt Nowhere word lines c = replied Nothing c
-writeAt Reset word lines c = done 0 (softReset c)
-writeAt Csr word lines c = done 0 (withControl (configured word (c .control)) c)
-writeAt Timestamp word lines c = replied Forbidden c
-writeAt Filter word lines c = done 0 (withControl (filtering word (c .control)) c)
-writeAt Waits word lines c = done 0 (withControl (waitsCleared (c .control)) c)
-writeAt Overruns word lines c = done 0 (withControl (overrunsCleared (c .control)) c)
-writeAt Mux word lines c = done 0 (withSwitches (selecting word (c .switches)) c)
-writeAt Clear word lines c = done 0 (withBank (cleared (word % 2 ^ 16) (c .bank)) c)
-writeAt Enable word lines c = done 0 (withSwitches (enabling word (c .switches)) c)
-writeAt Disable word lines c = done 0 (withSwitches (disabling word (c .switches)) c)
-writeAt (Source i) word lines c = done 0 (withSources (set (c .sources) i (word % 2 ^ 32)) c)
-writeAt (Counter i) word lines c = done 0 (withBank (fired i (c .switches) (c .bank)) c)
-writeAt (Trace level) word lines c = trigger false level word lines c
-writeAt (Resource level) word lines c = trigger true level word lines c
+unfoldable pub writeAt : Place → ℕ → ℕ → Chip → Told
+writeAt Beyond bits lines c = replied TooHigh c
+writeAt Nowhere bits lines c = replied Nothing c
+writeAt Reset bits lines c = done 0 (softReset c)
+writeAt Csr bits lines c = done 0 (withControl (configured bits (c .control)) c)
+writeAt Timestamp bits lines c = replied Forbidden c
+writeAt Filter bits lines c = done 0 (withControl (filtering bits (c .control)) c)
+writeAt Waits bits lines c = done 0 (withControl (waitsCleared (c .control)) c)
+writeAt Overruns bits lines c = done 0 (withControl (overrunsCleared (c .control)) c)
+writeAt Mux bits lines c = done 0 (withSwitches (selecting bits (c .switches)) c)
+writeAt Clear bits lines c = done 0 (withBank (cleared (bits % 2 ^ 16) (c .bank)) c)
+writeAt Enable bits lines c = done 0 (withSwitches (enabling bits (c .switches)) c)
+writeAt Disable bits lines c = done 0 (withSwitches (disabling bits (c .switches)) c)
+writeAt (Source i) bits lines c = done 0 (withSources (set (c .sources) i (bits % 2 ^ 32)) c)
+writeAt (Counter i) bits lines c = done 0 (withBank (fired i (c .switches) (c .bank)) c)
+writeAt (Trigger resource level) bits lines c = trigger resource level bits lines c
 
 -- "A counter read with the shadows free copies all sixteen to the shadows and returns the chosen one .. With the shadows busy: reply
 -- 10 if read wait is set, otherwise 11"
-unfoldable pub readCounter : ℕ → Chip → Answer
+unfoldable pub readCounter : ℕ → Chip → Told
 readCounter i c =
     cond (busy (c .queue))
     (cond (c .control .readwait)
     (replied Wait (withControl (waited (c .control)) c))
-    (record { chip = c; value = 2 ^ 63; reply = Busy }))
+    (replied Busy c))
     (done (getD (c .bank .values) i 0) (withBank (copied (c .bank)) c))
 
-unfoldable pub readAt : Place → Chip → Answer
+unfoldable pub readAt : Place → Chip → Told
 readAt Beyond c = replied TooHigh c
 readAt Nowhere c = replied Nothing c
 readAt Reset c = replied Forbidden c
@@ -187,20 +186,19 @@ readAt Enable c = done (c .switches .enabled) c
 readAt Disable c = replied Forbidden c
 readAt (Source i) c = done (getD (c .sources) i 0) c
 readAt (Counter i) c = readCounter i c
-readAt (Trace level) c = replied Forbidden c
-readAt (Resource level) c = replied Forbidden c
+readAt (Trigger resource level) c = replied Forbidden c
 
 -- ---- the operations, by "The chip's operations"
 
 -- "Hardware reset": no bounds are asked of the record
-abbrev pub hardReset : Chip → Answer
+abbrev pub hardReset : Chip → Told
 hardReset c = done 0 fresh
 
 -- "Write: address, 64-bit data, 8 processor lines. Read: address"
-unfoldable pub write : ℕ → ℕ → ℕ → Chip → Answer
-write address word lines c = guarded c (writeAt (placeOf address) word lines c)
+unfoldable pub write : ℕ → ℕ → ℕ → Chip → Told
+write address bits lines c = guarded c (writeAt (placeOf address) bits lines c)
 
-unfoldable pub read : ℕ → Chip → Answer
+unfoldable pub read : ℕ → Chip → Told
 read address c = guarded c (readAt (placeOf address) c)
 
 -- "Timestamp ticks": "Timestamp wraps at 2^56", and the slow events among the ticks count
@@ -215,15 +213,15 @@ afterTicks k c =
       switches = ticking k (c .switches);
     }
 
-unfoldable pub timestampTicks : ℕ → Chip → Answer
+unfoldable pub timestampTicks : ℕ → Chip → Told
 timestampTicks k c = guarded c (done 0 (afterTicks k c))
 
 -- "node ticks": "11 node clock"
-unfoldable pub nodeTicks : ℕ → Chip → Answer
+unfoldable pub nodeTicks : ℕ → Chip → Told
 nodeTicks k c = guarded c (done 0 (withBank (ticked Node k (c .switches) (c .bank)) c))
 
 -- "External events: a 16-bit mask, one event for each set bit"
-unfoldable pub externalEvents : ℕ → Chip → Answer
+unfoldable pub externalEvents : ℕ → Chip → Told
 externalEvents mask c = guarded c (done 0 (withBank (signalled mask (c .switches) (c .bank)) c))
 
 -- "A sample is held .. until its last word is sent": with none held there is no word to send
@@ -231,16 +229,16 @@ abbrev pub noneHeld : ℕ → Bool
 noneHeld held = eqb held 0
 
 -- "5 no word to send", else the next word
-abbrev pub sendNow : Chip → Answer
+abbrev pub sendNow : Chip → Told
 sendNow c =
     cond (noneHeld (c .queue .held)) (replied NoWord c)
     (done (nextWord (c .bank .shadows) (c .queue)) (withQueue (advanced (c .queue)) c))
 
-unfoldable pub send : Chip → Answer
+unfoldable pub send : Chip → Told
 send c = guarded c (sendNow c)
 
 -- "A buffer send with nothing left returns 0 words with reply 0"
-unfoldable pub sendInto : ℕ → Chip → Answer
+unfoldable pub sendInto : ℕ → Chip → Told
 sendInto room c =
     let s = sendMany room (c .bank .shadows) (c .queue) in
     guarded c (done (s .count) (withQueue (s .queue) c))

@@ -2,10 +2,10 @@
 -- of operations go by it.
 use Prim.Native.Nat.{ℕ}
 use Rattle.chip.specs.Chip.{externalEvents, hardReset, nodeTicks, read, send, sendInto, timestampTicks, write}
-use Rattle.chip.specs.declared.chip.Answer.{Answer}
+use Rattle.chip.specs.Reply.{Told}
 use Rattle.chip.specs.declared.chip.Chip.{Chip}
 
--- a write has its address, data (`word` here and in the code, since `data` is a word of the language) and processor lines, a read its
+-- a write has its address, data (`bits` here and in the code, since `data` is a word of the language) and processor lines, a read its
 -- address; ticks have their count, events their mask, and a buffer send the number of its places
 pub data Operation : Type 0 where
   opReset : Operation
@@ -15,9 +15,9 @@ pub data Operation : Type 0 where
   opFill : ℕ → Operation
 
 -- "Each operation is given the whole record and hands back the next one, with a reply number and a 64-bit value"
-abbrev pub step : Operation → Chip → Answer
+abbrev pub step : Operation → Chip → Told
 step opReset c = hardReset c
-step (opWrite address word lines) c = write address word lines c
+step (opWrite address bits lines) c = write address bits lines c
 step (opRead address) c = read address c
 step (opTicks k) c = timestampTicks k c
 step (opNodes k) c = nodeTicks k c

@@ -1,18 +1,46 @@
--- Document 01, "Reply numbers": the number of each reply.
-use Prim.Native.Nat.{ℕ}
+-- Document 01, "Reply numbers": the table's columns "No." and "Value", and an answer by its number.
+use Prim.Native.Nat.{ℕ, _^_}
+use Rattle.chip.specs.declared.chip.Answer.{Answer}
+use Rattle.chip.specs.declared.chip.Chip.{Chip}
 use Rattle.chip.specs.declared.reply.Reply.{Reply}
 use Rattle.chip.specs.declared.reply.Reply.the-variants.{Done, TooHigh, Nothing, Forbidden, Lines, NoWord, Off, Filtered, Lost, Wait, Busy, Outside}
 
+-- a row's number and value
+pub record Row : Type 0 where
+  pub number : ℕ
+  pub value : ℕ
+
+-- each reply's row; the second argument is the "data read, word sent, words written to the buffer" of a 0
+abbrev pub rowOf : Reply → ℕ → Row
+rowOf Done v = record { number = 0; value = v }
+rowOf TooHigh v = record { number = 1; value = 0 }
+rowOf Nothing v = record { number = 2; value = 0 }
+rowOf Forbidden v = record { number = 3; value = 0 }
+rowOf Lines v = record { number = 4; value = 0 }
+rowOf NoWord v = record { number = 5; value = 0 }
+rowOf Off v = record { number = 6; value = 0 }
+rowOf Filtered v = record { number = 7; value = 0 }
+rowOf Lost v = record { number = 8; value = 0 }
+rowOf Wait v = record { number = 10; value = 0 }
+rowOf Busy v = record { number = 11; value = 2 ^ 63 }
+rowOf Outside v = record { number = 15; value = 0 }
+
+-- a reply's number, and its value where nothing is read, sent or written
 abbrev pub replyNumber : Reply → ℕ
-replyNumber Done = 0
-replyNumber TooHigh = 1
-replyNumber Nothing = 2
-replyNumber Forbidden = 3
-replyNumber Lines = 4
-replyNumber NoWord = 5
-replyNumber Off = 6
-replyNumber Filtered = 7
-replyNumber Lost = 8
-replyNumber Wait = 10
-replyNumber Busy = 11
-replyNumber Outside = 15
+replyNumber r = rowOf r 0 .number
+
+abbrev pub replyValue : Reply → ℕ
+replyValue r = rowOf r 0 .value
+
+-- "hands back the next one, with a reply number and a 64-bit value"
+pub record Told : Type 0 where
+  pub chip : Chip
+  pub number : ℕ
+  pub value : ℕ
+
+-- what an answer tells, and what a row tells of a record
+abbrev pub told : Answer → Told
+told a = record { chip = a .chip; number = replyNumber (a .reply); value = a .value }
+
+abbrev pub toldRow : Row → Chip → Told
+toldRow row c = record { chip = c; number = row .number; value = row .value }

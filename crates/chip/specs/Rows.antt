@@ -1,16 +1,16 @@
 -- Document 01, "Reply numbers": for each row of the table, whether an operation on a record is that row's case. The rows are "tried in
 -- the order 15, 1, 2, 3, 4, then for a trigger 6, 7, 8 or 10".
-use Prim.Native.Nat.{ℕ, _%_}
+use Prim.Native.Nat.{ℕ, zero, suc, _/_, _%_, _^_}
 use mathlib.Core.Bool.{Bool, true, false, not, _&&_, _||_}
+use mathlib.Core.List.{List}
 use lib.Dec.{leb, ltb, eqb}
-use Rattle.counters.specs.Bank.{bit}
-use Rattle.queue.specs.Queue.{busy}
-use Rattle.chip.specs.Chip.{inside, lacksRoom}
+use lib.ListN.{getD}
+use Rattle.queue.specs.Queue.{zeroHeld}
+use Rattle.queue.specs.declared.queue.Held.{Held}
+use Rattle.chip.specs.Chip.{inside}
 use Rattle.chip.specs.Place.{between}
 use Rattle.chip.specs.Operation.{Operation, opReset, opWrite, opRead, opTicks, opNodes, opEvents, opSend, opFill}
-use Rattle.chip.specs.Reply.{replyNumber}
 use Rattle.chip.specs.declared.chip.Chip.{Chip}
-use Rattle.chip.specs.declared.reply.Reply.{Reply}
 
 -- ---- addresses, by "Address map"
 
@@ -52,7 +52,7 @@ oneActive lines = lineAlone (lines % 256)
 -- "any operation but hardware reset"
 abbrev pub checked : Operation → Bool
 checked opReset = false
-checked (opWrite address word lines) = true
+checked (opWrite address bits lines) = true
 checked (opRead address) = true
 checked (opTicks k) = true
 checked (opNodes k) = true
@@ -63,7 +63,7 @@ checked (opFill room) = true
 -- a write whose address and lines pass the first test, a read whose address passes the second, or a single send under the third
 abbrev pub case : (ℕ → ℕ → Bool) → (ℕ → Bool) → Bool → Operation → Bool
 case w r s opReset = false
-case w r s (opWrite address word lines) = w address lines
+case w r s (opWrite address bits lines) = w address lines
 case w r s (opRead address) = r address
 case w r s (opTicks k) = false
 case w r s (opNodes k) = false
@@ -83,11 +83,20 @@ counterCase b op = case (λ a lines. false) (λ a. counterAt a && b) false op
 
 -- the Filter has the trigger's bit: "filter level = address mod 16"
 abbrev pub passes : Chip → ℕ → Bool
-passes c a = bit (c .control .filter) (a % 16)
+passes c a = eqb (c .control .filter / 2 ^ (a % 16) % 2) 1
 
--- "A trigger lacks room": from 112 on it is a Resource trigger
+-- one of the first n places has a header with bit 3: the low four bits are 8 or more
+unfoldable pub someResource : ℕ → List Held → Bool
+someResource zero hs = false
+someResource (suc n) hs = leb 8 (getD hs n zeroHeld .header % 16) || someResource n hs
+
+-- "a Resource sample is held", and so "shadows busy"
+abbrev pub resourceHeld : Chip → Bool
+resourceHeld c = someResource (c .queue .held) (c .queue .places)
+
+-- "A trigger lacks room if 8 are held, or if it is a Resource trigger and a Resource sample is held": from 112 on it is one
 abbrev pub lacking : Chip → ℕ → Bool
-lacking c a = lacksRoom (leb 112 a) (c .queue)
+lacking c a = leb 8 (c .queue .held) || (leb 112 a && resourceHeld c)
 
 -- ---- the rows
 
@@ -133,11 +142,11 @@ abbrev pub row10 : Operation → Chip → Bool
 row10 op c =
     inside c
     && (triggerCase (λ a. c .control .sampling && (passes c a && (lacking c a && c .control .writewait))) op
-    || counterCase (busy (c .queue) && c .control .readwait) op)
+    || counterCase (resourceHeld c && c .control .readwait) op)
 
 -- "11 shadows busy, not waiting"
 abbrev pub row11 : Operation → Chip → Bool
-row11 op c = inside c && counterCase (busy (c .queue) && not (c .control .readwait)) op
+row11 op c = inside c && counterCase (resourceHeld c && not (c .control .readwait)) op
 
 -- "0 done, or sample taken": none of the others
 abbrev pub row0 : Operation → Chip → Bool
@@ -145,8 +154,8 @@ row0 op c =
     not (row15 op c || (row1 op c || (row2 op c || (row3 op c || (row4 op c || (row5 op c || (row6 op c || (row7 op c || (row8 op c || (row10 op c || row11 op c))))))))))
 
 -- "Refusals are 1 to 5, 9 and 15" (9 is the bench program's)
-abbrev pub refused : Reply → Bool
-refused r = between 1 5 (replyNumber r) || eqb (replyNumber r) 15
+abbrev pub refused : ℕ → Bool
+refused n = between 1 5 n || eqb n 15
 
 -- "112..127 Resource trigger"
 abbrev pub resourceTrigger : Operation → Bool

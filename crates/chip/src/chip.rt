@@ -1,20 +1,31 @@
 // The chip: one record by value, and each operation with the next record beside its reply.
 use super::control::Control;
+use super::control::TWO_16;
 use super::control::one;
 use super::place::Place;
 use super::place::find;
 use super::reply::Reply;
+use super::reply::value_of;
 use counters::bank::Bank;
 use counters::switches::Kind;
 use counters::switches::Switches;
 use queue::queue::Held;
 use queue::queue::Queue;
 ghost use mathlib.Core.Path.{_≡_};
-ghost use mathlib.Core.Bool.{cond, false, true};
-ghost use Prim.Native.Nat.{ℕ, _<_, _≤_, _^_};
+ghost use mathlib.Core.Bool.{cond};
+ghost use Prim.Native.Nat.{_<_, _^_};
 ghost use lib.ListN.{getD, length, set};
 ghost use Rattle.counters.specs.Bank.{copied};
+ghost use Rattle.chip.specs.Reply.{told};
 ghost use Rattle.chip.specs.Chip.{afterTicks, blocked, done, externalEvents, fresh, hardReset, inside, nodeTicks, noneHeld, read, readAt, readCounter, replied, sampleNow, send, sendInto, sentBuffer, softReset, takeSample, timestampTicks, trigger, triggerBy, fateOf, withBank, withControl, withSources, withStamp, withSwitches, write, writeAt};
+
+const TWO_32: u64 = 1 << 32;
+
+const TWO_40: u64 = 1 << 40;
+
+const TWO_48: u64 = 1 << 48;
+
+const TWO_56: u64 = 1 << 56;
 
 // Wide parts first: no padding (400 bytes).
 pub struct Chip {
@@ -48,33 +59,15 @@ impl Chip {
         Chip {
             stamp,
             queue: Queue::empty(),
-            bank: Bank {
-                values: [0; 16],
-                shadows: [0; 16],
-            },
+            bank: Bank::zero(),
             sources: [0; 8],
-            control: Control {
-                wait: 0,
-                overrun: 0,
-                filter: 0,
-                sampling: false,
-                writewait: false,
-                readwait: false,
-                flagfull: false,
-                flagbusy: false,
-                lost: false,
-            },
-            switches: Switches {
-                enabled: 0,
-                low: 0,
-                high: 0,
-                phase: 0,
-            },
+            control: Control::zero(),
+            switches: Switches::zero(),
         }
     }
 
     pub fn hardware_reset(self) -> Answer
-        ensures { λ r. ⌜ r ≡ hardReset self ⌝ }
+        ensures { λ r. ⌜ told r ≡ hardReset self ⌝ }
     {
         Chip::fresh().done(0)
     }
@@ -85,12 +78,12 @@ impl Chip {
     {
         let queue = self.queue;
         let phase = self.switches.phase;
-        queue.inside() & (phase < 10) & (self.stamp < 72057594037927936)
+        queue.inside() & (phase < 10) & (self.stamp < TWO_56)
     }
 
     // Done, with a value.
     fn done(self, value: u64) -> Answer
-        ensures { λ r. ⌜ r ≡ done value self ⌝ }
+        ensures { λ r. ⌜ told r ≡ done value self ⌝ }
     {
         Answer {
             chip: self,
@@ -99,30 +92,30 @@ impl Chip {
         }
     }
 
-    // This chip, with a reply and the value 0.
+    // This chip, with another reply.
     fn replied(self, reply: Reply) -> Answer
-        ensures { λ r. ⌜ r ≡ replied reply self ⌝ }
+        ensures { λ r. ⌜ told r ≡ replied reply self ⌝ }
     {
         Answer {
             chip: self,
-            value: 0,
+            value: value_of(reply),
             reply,
         }
     }
 }
 
 impl Chip {
-    pub fn write(self, address: u64, word: u64, lines: u8) -> Answer
-        ensures { λ r. ⌜ r ≡ write address word lines self ⌝ }
+    pub fn write(self, address: u64, bits: u64, lines: u8) -> Answer
+        ensures { λ r. ⌜ told r ≡ write address bits lines self ⌝ }
     {
         if self.inside() {
-            return self.write_at(find(address), word, lines);
+            return self.write_at(find(address), bits, lines);
         }
         self.replied(Reply::Outside)
     }
 
     pub fn read(self, address: u64) -> Answer
-        ensures { λ r. ⌜ r ≡ read address self ⌝ }
+        ensures { λ r. ⌜ told r ≡ read address self ⌝ }
     {
         if self.inside() {
             return self.read_at(find(address));
@@ -131,7 +124,7 @@ impl Chip {
     }
 
     pub fn timestamp_ticks(self, count: u32) -> Answer
-        ensures { λ r. ⌜ r ≡ timestampTicks count self ⌝ }
+        ensures { λ r. ⌜ told r ≡ timestampTicks count self ⌝ }
     {
         if self.inside() {
             return self.after_ticks(count).done(0);
@@ -140,7 +133,7 @@ impl Chip {
     }
 
     pub fn node_ticks(mut self, count: u32) -> Answer
-        ensures { λ r. ⌜ r ≡ nodeTicks count self ⌝ }
+        ensures { λ r. ⌜ told r ≡ nodeTicks count self ⌝ }
     {
         if self.inside() {
             let bank = self.bank.ticked(self.switches, Kind::Node, count);
@@ -151,7 +144,7 @@ impl Chip {
     }
 
     pub fn external_events(mut self, mask: u16) -> Answer
-        ensures { λ r. ⌜ r ≡ externalEvents mask self ⌝ }
+        ensures { λ r. ⌜ told r ≡ externalEvents mask self ⌝ }
     {
         if self.inside() {
             let bank = self.bank.signalled(self.switches, mask);
@@ -163,7 +156,7 @@ impl Chip {
 
     // The next word, if there is one.
     pub fn send(mut self) -> Answer
-        ensures { λ r. ⌜ r ≡ send self ⌝ }
+        ensures { λ r. ⌜ told r ≡ send self ⌝ }
     {
         if self.inside() {
             if none_held(self.queue.held) {
@@ -173,14 +166,14 @@ impl Chip {
             let sent = self.queue.send(shadows);
             let queue = sent.queue;
             self.queue = queue;
-            return self.done(sent.word);
+            return self.done(sent.word as u64);
         }
         self.replied(Reply::Outside)
     }
 
     // As many words as the buffer has places or as are left.
     pub fn send_into(mut self, out: &mut [u16]) -> Answer
-        ensures { λ r. ⌜ r ≡ sendInto (length (now (out .entry))) self ⌝ }
+        ensures { λ r. ⌜ told r ≡ sendInto (length (now (out .entry))) self ⌝ }
         ensures { λ r. ⌜ now (out .exit) ≡ sentBuffer self (now (out .entry)) ⌝ }
     {
         if self.inside() {
@@ -195,35 +188,33 @@ impl Chip {
 }
 
 impl Chip {
-    // A write, by what stands at the address. Both kinds of trigger share one call, so that the compiler keeps the record in place.
-    fn write_at(self, place: Place, word: u64, lines: u8) -> Answer
-        ensures { λ r. ⌜ r ≡ writeAt place word lines self ⌝ }
+    // A write, by what stands at the address.
+    fn write_at(self, place: Place, bits: u64, lines: u8) -> Answer
+        ensures { λ r. ⌜ told r ≡ writeAt place bits lines self ⌝ }
     {
         match place {
             Place::Beyond => self.replied(Reply::TooHigh),
             Place::Nowhere => self.replied(Reply::Nothing),
             Place::Reset => self.soft_reset().done(0),
-            Place::Csr => self.controlled(self.control.configured(word)).done(0),
+            Place::Csr => self.controlled(self.control.configured(bits)).done(0),
             Place::Timestamp => self.replied(Reply::Forbidden),
-            Place::Filter => self.controlled(self.control.filtering(word)).done(0),
+            Place::Filter => self.controlled(self.control.filtering(bits)).done(0),
             Place::Waits => self.controlled(self.control.waits_cleared()).done(0),
             Place::Overruns => self.controlled(self.control.overruns_cleared()).done(0),
-            Place::Mux => self.switched(self.switches.selecting(word)).done(0),
-            Place::Clear => self.banked(self.bank.cleared((word % 65536) as u16))
+            Place::Mux => self.switched(self.switches.selecting(bits)).done(0),
+            Place::Clear => self.banked(self.bank.cleared((bits % TWO_16) as u16))
                 .done(0),
-            Place::Enable => self.switched(self.switches.enabling(word)).done(0),
-            Place::Disable => self.switched(self.switches.disabling(word)).done(0),
-            Place::Source(i) => self.sourced(i, (word % 4294967296) as u32).done(0),
+            Place::Enable => self.switched(self.switches.enabling(bits)).done(0),
+            Place::Disable => self.switched(self.switches.disabling(bits)).done(0),
+            Place::Source(i) => self.sourced(i, (bits % TWO_32) as u32).done(0),
             Place::Counter(i) => self.banked(self.bank.fired(self.switches, i)).done(0),
-            Place::Trace(level) | Place::Resource(level) => {
-                self.trigger(takes_counters(place), level, word, lines)
-            }
+            Place::Trigger(resource, level) => self.trigger(resource, level, bits, lines),
         }
     }
 
     // A read, by what stands at the address.
     fn read_at(self, place: Place) -> Answer
-        ensures { λ r. ⌜ r ≡ readAt place self ⌝ }
+        ensures { λ r. ⌜ told r ≡ readAt place self ⌝ }
     {
         match place {
             Place::Beyond => self.replied(Reply::TooHigh),
@@ -240,8 +231,7 @@ impl Chip {
             Place::Disable => self.replied(Reply::Forbidden),
             Place::Source(i) => self.done(self.source(i) as u64),
             Place::Counter(i) => self.read_counter(i),
-            Place::Trace(_) => self.replied(Reply::Forbidden),
-            Place::Resource(_) => self.replied(Reply::Forbidden),
+            Place::Trigger(_, _) => self.replied(Reply::Forbidden),
         }
     }
 
@@ -272,22 +262,13 @@ impl Chip {
         self
     }
 
-    // A Source Address register takes a number. Eight fixed places: with a computed one the compiler copies the whole record at every
-    // operation (docs/PERFORMANCE.md).
+    // A Source Address register takes a number.
     fn sourced(mut self, index: usize, number: u32) -> Chip
         ensures { λ r. ⌜ r ≡ withSources (set (self .sources) index number) self ⌝ }
     {
-        match index {
-            0 => self.sources[0] = number,
-            1 => self.sources[1] = number,
-            2 => self.sources[2] = number,
-            3 => self.sources[3] = number,
-            4 => self.sources[4] = number,
-            5 => self.sources[5] = number,
-            6 => self.sources[6] = number,
-            7 => self.sources[7] = number,
-            _ => {}
-        }
+        let sources = self.sources;
+        let next = stored(sources, index, number);
+        self.sources = next;
         self
     }
 
@@ -299,17 +280,13 @@ impl Chip {
 
     // A counter through the shadows, or a wait, or no data.
     fn read_counter(self, index: usize) -> Answer
-        ensures { λ r. ⌜ r ≡ readCounter index self ⌝ }
+        ensures { λ r. ⌜ told r ≡ readCounter index self ⌝ }
     {
         if self.queue.busy() {
             if self.control.readwait {
                 return self.controlled(self.control.waited()).replied(Reply::Wait);
             }
-            return Answer {
-                chip: self,
-                value: 9223372036854775808,
-                reply: Reply::Busy,
-            };
+            return self.replied(Reply::Busy);
         }
         self.banked(self.bank.copied())
             .done(self.bank.value(index) as u64)
@@ -323,7 +300,7 @@ impl Chip {
         let slow = self.switches.slow_events(count);
         let bank = self.bank.ticked(self.switches, Kind::Slow, slow);
         let switches = self.switches.ticking(count);
-        self.stamp = (self.stamp + count as u64) % 72057594037927936;
+        self.stamp = (self.stamp + count as u64) % TWO_56;
         self.bank = bank;
         self.switches = switches;
         self
@@ -332,20 +309,20 @@ impl Chip {
 
 impl Chip {
     // A trigger, by its line, the settings, the Filter and the room.
-    fn trigger(self, resource: bool, level: usize, word: u64, lines: u8) -> Answer
-        ensures { λ r. ⌜ r ≡ trigger resource level word lines self ⌝ }
+    fn trigger(self, resource: bool, level: usize, bits: u64, lines: u8) -> Answer
+        ensures { λ r. ⌜ told r ≡ trigger resource level bits lines self ⌝ }
     {
         if u8::count_ones(lines) == 1 {
             let line = u8::trailing_zeros(lines);
-            return self.trigger_line(resource, level, word, line);
+            return self.trigger_line(resource, level, bits, line);
         }
         self.replied(Reply::Lines)
     }
 
     // The same, of a trigger with one active line.
-    fn trigger_line(self, resource: bool, level: usize, word: u64, line: u32) -> Answer
-        requires { ⌜ line ≤ 8 ⌝ }
-        ensures { λ r. ⌜ r ≡ triggerBy (fateOf resource level self) resource line word self ⌝ }
+    fn trigger_line(self, resource: bool, level: usize, bits: u64, line: u32) -> Answer
+        requires { ⌜ line < 8 ⌝ }
+        ensures { λ r. ⌜ told r ≡ triggerBy (fateOf resource level self) resource line bits self ⌝ }
     {
         let control = self.control;
         if !control.sampling {
@@ -363,7 +340,7 @@ impl Chip {
             return self.controlled(control.overran(full, blocked))
                 .replied(Reply::Lost);
         }
-        self.take(resource, line, word).done(0)
+        self.take(resource, line, bits).done(0)
     }
 
     // Whether a Resource trigger finds the shadows busy.
@@ -374,11 +351,11 @@ impl Chip {
     }
 
     // A sample is taken as the record stands.
-    fn take(mut self, resource: bool, line: u32, word: u64) -> Chip
-        requires { ⌜ line ≤ 8 ⌝ }
-        ensures { λ r. ⌜ r ≡ takeSample resource line word self ⌝ }
+    fn take(mut self, resource: bool, line: u32, bits: u64) -> Chip
+        requires { ⌜ line < 8 ⌝ }
+        ensures { λ r. ⌜ r ≡ takeSample resource line bits self ⌝ }
     {
-        let sample = self.sample_now(resource, line, word);
+        let sample = self.sample_now(resource, line, bits);
         let queue = self.queue.pushed(sample);
         let bank = self.shadowed(resource);
         let control = self.control.taken();
@@ -398,13 +375,13 @@ impl Chip {
         }
     }
 
-    fn sample_now(self, resource: bool, line: u32, word: u64) -> Held
-        requires { ⌜ line ≤ 8 ⌝ }
-        ensures { λ r. ⌜ r ≡ sampleNow resource line word self ⌝ }
+    fn sample_now(self, resource: bool, line: u32, bits: u64) -> Held
+        requires { ⌜ line < 8 ⌝ }
+        ensures { λ r. ⌜ r ≡ sampleNow resource line bits self ⌝ }
     {
         Held {
-            user: word % 281474976710656,
-            stamp: self.stamp % 1099511627776,
+            user: bits % TWO_48,
+            stamp: self.stamp % TWO_40,
             source: self.source(line as usize),
             header: line + 8 * one(resource) + 16 * one(self.control.lost),
         }
@@ -418,13 +395,25 @@ fn none_held(held: usize) -> bool
     held == 0
 }
 
-// Whether a trigger's place is a Resource trigger's.
-fn takes_counters(place: Place) -> bool
-    ensures { λ r. ⌜ ((level : ℕ) → place ≡ Place.Trace level → r ≡ false) ⌝ }
-    ensures { λ r. ⌜ ((level : ℕ) → place ≡ Place.Resource level → r ≡ true) ⌝ }
+// The registers with a number stored at one of them. Every place is visited: with a computed one the compiler copies the whole record
+// at every operation (docs/PERFORMANCE.md).
+fn stored(mut sources: [u32; 8], at: usize, number: u32) -> [u32; 8]
+    ensures { λ r. ⌜ r ≡ set sources at number ⌝ }
 {
-    match place {
-        Place::Resource(_) => true,
-        _ => false,
+    let mut i = 0;
+    while i < 8 {
+        let old = sources[i];
+        sources[i] = chosen(old, i == at, number);
+        i += 1;
     }
+    sources
+}
+
+fn chosen(old: u32, yes: bool, new: u32) -> u32
+    ensures { λ r. ⌜ r ≡ cond yes new old ⌝ }
+{
+    if yes {
+        return new;
+    }
+    old
 }

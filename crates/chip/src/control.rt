@@ -2,7 +2,7 @@
 ghost use mathlib.Core.Path.{_≡_};
 ghost use Prim.Native.Nat.{_≤_};
 ghost use Rattle.counters.specs.Bank.{bit};
-ghost use Rattle.chip.specs.Control.{configured, csrOf, filtering, one, overran, pair, taken, overrunsCleared, waitsCleared, waited};
+ghost use Rattle.chip.specs.Control.{configured, csrOf, filtering, noControl, one, overran, pair, taken, overrunsCleared, waitsCleared, waited};
 
 // No padding (16 bytes).
 pub struct Control {
@@ -17,21 +17,40 @@ pub struct Control {
     pub lost: bool,
 }
 
+pub const TWO_16: u64 = 1 << 16;
+
 impl Control {
-    // The three settings after a write of the CSR.
-    pub fn configured(mut self, word: u64) -> Control
-        ensures { λ r. ⌜ r ≡ configured word self ⌝ }
+    // After a reset: every setting off, every number and mark zero.
+    pub fn zero() -> Control
+        ensures { λ r. ⌜ r ≡ noControl ⌝ }
     {
-        self.sampling = pair(word % 2 == 1, word / 2 % 2 == 1, self.sampling);
-        self.writewait = pair(word / 4 % 2 == 1, word / 8 % 2 == 1, self.writewait);
-        self.readwait = pair(word / 16 % 2 == 1, word / 32 % 2 == 1, self.readwait);
+        Control {
+            wait: 0,
+            overrun: 0,
+            filter: 0,
+            sampling: false,
+            writewait: false,
+            readwait: false,
+            flagfull: false,
+            flagbusy: false,
+            lost: false,
+        }
+    }
+
+    // The three settings after a write of the CSR.
+    pub fn configured(mut self, bits: u64) -> Control
+        ensures { λ r. ⌜ r ≡ configured bits self ⌝ }
+    {
+        self.sampling = pair(bits % 2 == 1, bits / 2 % 2 == 1, self.sampling);
+        self.writewait = pair(bits / 4 % 2 == 1, bits / 8 % 2 == 1, self.writewait);
+        self.readwait = pair(bits / 16 % 2 == 1, bits / 32 % 2 == 1, self.readwait);
         self
     }
 
-    pub fn filtering(mut self, word: u64) -> Control
-        ensures { λ r. ⌜ r ≡ filtering word self ⌝ }
+    pub fn filtering(mut self, bits: u64) -> Control
+        ensures { λ r. ⌜ r ≡ filtering bits self ⌝ }
     {
-        self.filter = (word % 65536) as u16;
+        self.filter = (bits % TWO_16) as u16;
         self
     }
 

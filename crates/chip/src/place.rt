@@ -20,9 +20,8 @@ pub enum Place {
     // With its number.
     Source(usize),
     Counter(usize),
-    // With its filter level.
-    Trace(usize),
-    Resource(usize),
+    // Whether it is a Resource trigger, and its filter level.
+    Trigger(bool, usize),
 }
 
 pub fn find(address: u64) -> Place
@@ -32,10 +31,10 @@ pub fn find(address: u64) -> Place
         return Place::Beyond;
     }
     if 112 <= address {
-        return Place::Resource((address - 112) as usize);
+        return Place::Trigger(true, (address - 112) as usize);
     }
     if 96 <= address {
-        return Place::Trace((address - 96) as usize);
+        return Place::Trigger(false, (address - 96) as usize);
     }
     if 48 <= address {
         return Place::Nowhere;

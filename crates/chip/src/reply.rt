@@ -1,6 +1,6 @@
-// What an operation answers, and document 01's number for it.
+// What an operation answers, and document 01's number and value for it.
 ghost use mathlib.Core.Path.{_≡_};
-ghost use Rattle.chip.specs.Reply.{replyNumber};
+ghost use Rattle.chip.specs.Reply.{replyNumber, replyValue};
 
 pub enum Reply {
     Done,
@@ -34,5 +34,28 @@ pub fn number_of(reply: Reply) -> u64
         Reply::Wait => 10,
         Reply::Busy => 11,
         Reply::Outside => 15,
+    }
+}
+
+// Bit 63 alone.
+const TWO_63: u64 = 1 << 63;
+
+// Document 01's value of a reply that reads, sends and writes nothing.
+pub fn value_of(reply: Reply) -> u64
+    ensures { λ r. ⌜ r ≡ replyValue reply ⌝ }
+{
+    match reply {
+        Reply::Done => 0,
+        Reply::TooHigh => 0,
+        Reply::Nothing => 0,
+        Reply::Forbidden => 0,
+        Reply::Lines => 0,
+        Reply::NoWord => 0,
+        Reply::Off => 0,
+        Reply::Filtered => 0,
+        Reply::Lost => 0,
+        Reply::Wait => 0,
+        Reply::Busy => TWO_63,
+        Reply::Outside => 0,
     }
 }

@@ -41,7 +41,7 @@ fn span_at(chip: Chip, kind: Trial, at: u64) -> Span {
 fn answer_at(chip: Chip, kind: Trial, at: u64) -> Answer {
     match kind {
         Trial::Read => chip.read(at),
-        Trial::Write(word, lines) => chip.write(at, word, lines),
+        Trial::Write(bits, lines) => chip.write(at, bits, lines),
         Trial::Lines(address) => chip.write(address, 0, (at % 256) as u8),
     }
 }

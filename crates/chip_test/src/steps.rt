@@ -31,16 +31,16 @@ pub fn hardware_reset(chip: Chip) -> Chip {
     line(chip, chip.hardware_reset())
 }
 
-pub fn write(chip: Chip, address: u64, word: u64, lines: u8) -> Chip {
+pub fn write(chip: Chip, address: u64, bits: u64, lines: u8) -> Chip {
     print::field(b"write ", address);
-    print::field(b" data ", word);
+    print::field(b" data ", bits);
     print::field(b" lines ", lines as u64);
-    line(chip, chip.write(address, word, lines))
+    line(chip, chip.write(address, bits, lines))
 }
 
 // A write that the processor lines don't matter for.
-pub fn set(chip: Chip, address: u64, word: u64) -> Chip {
-    write(chip, address, word, 0)
+pub fn set(chip: Chip, address: u64, bits: u64) -> Chip {
+    write(chip, address, bits, 0)
 }
 
 pub fn read(chip: Chip, address: u64) -> Chip {

@@ -1,20 +1,23 @@
 -- Laws of the bits of a number: of what two numbers have in common or together, of the bits that a number lacks, of its low bits. By them
 -- the switches are what document 01 says of each counter: the mask of due events is the table of MUX fields, and a write enables or
--- disables the counters of the set bits and sets the two bits of each MUX field. Assumes nothing.
+-- disables the counters of the set bits and sets the two bits of each MUX field, whose number says what counts. Assumes nothing.
 use Prim.Native.Nat.{ℕ, zero, suc, _+_, _-_, _*_, _/_, _%_, _^_, _≤_, _<_, min, max}
 use native.Mathlib.Nat.{mod-lt, zero-lt-suc, div-one, pow-suc, lt-of-lt-of-le, div-eq-of-lt, not-suc-le-zero, le-of-suc-le-suc}
 use native.Mathlib.Numerals.{one-add}
 use native.Mathlib.Omega.{arith}
 use mathlib.Core.Path.{_≡_, refl, sym, ap, ap₂, _∙_}
-use mathlib.Core.Bool.{Bool, false, not, _&&_, _||_}
+use mathlib.Core.Bool.{Bool, false, cond, not, _&&_, _||_}
 use lib.Bits.{bitAnd, bitOr, and-shr, and-step, or-shr, or-step}
 use lib.Dec.{eqb}
+use lib.ListN.{getD, length}
 use lib.Pow.{field, mod-mod-pow, pow-mono, pow-pos, shr-shr}
-use Rattle.counters.specs.Bank.{bit}
-use Rattle.counters.specs.Due.{disabling, due, dueMask, enabling, selecting}
+use Rattle.counters.specs.Bank.{bit, cleared}
+use Rattle.counters.specs.Due.{disabling, due, dueMask, enabling, fieldAt, fieldOf, selecting, selects}
+use Rattle.counters.specs.declared.bank.Bank.{Bank}
 use Rattle.counters.specs.declared.switches.Switches.{Switches}
 use Rattle.counters.specs.declared.switches.Kind.{Kind}
 use Rattle.counters.specs.declared.switches.Kind.the-variants.{Slow, External, Software, Node}
+use Rattle.counters.proofs.EachLaws.{each-at}
 
 -- a number below 2 is 0 or 1
 zero-one : (P : ℕ → Type 0) → P 0 → P 1 → (n : ℕ) → n < 2 → P n
@@ -103,7 +106,28 @@ mask-due Node s i h p q =
     bit-and (s .enabled) (bitAnd (s .high) (s .low)) i
     ∙ ap (λ (b : Bool). bit (s .enabled) i && b) (bit-and (s .high) (s .low) i)
 
+-- the field by number: two bits select a kind where they are its number
+selects-field : (k : Kind) (a b : ℕ) → a < 2 → b < 2 → selects k (eqb a 1) (eqb b 1) ≡ eqb (2 * a + b) (fieldOf k)
+selects-field Slow = both-zero-one (λ (a b : ℕ). selects Slow (eqb a 1) (eqb b 1) ≡ eqb (2 * a + b) 0) refl refl refl refl
+selects-field External = both-zero-one (λ (a b : ℕ). selects External (eqb a 1) (eqb b 1) ≡ eqb (2 * a + b) 1) refl refl refl refl
+selects-field Software = both-zero-one (λ (a b : ℕ). selects Software (eqb a 1) (eqb b 1) ≡ eqb (2 * a + b) 2) refl refl refl refl
+selects-field Node = both-zero-one (λ (a b : ℕ). selects Node (eqb a 1) (eqb b 1) ≡ eqb (2 * a + b) 3) refl refl refl refl
+
+selects-at : (k : Kind) (high h low l : ℕ) → selects k (bit high h) (bit low l) ≡ eqb (fieldAt high h low l) (fieldOf k)
+selects-at k high h low l =
+    selects-field k (high / 2 ^ h % 2) (low / 2 ^ l % 2) (mod-lt (high / 2 ^ h) (zero-lt-suc 1)) (mod-lt (low / 2 ^ l) (zero-lt-suc 1))
+
+-- which counters count an event of a kind: the enabled ones whose field has the kind's number
+pub due-field : (k : Kind) (s : Switches) (i : ℕ) → due k s i ≡ (bit (s .enabled) i && eqb (fieldAt (s .high) i (s .low) i) (fieldOf k))
+due-field k s i = ap (λ (b : Bool). bit (s .enabled) i && b) (selects-at k (s .high) i (s .low) i)
+
 -- ---- what a write does to each counter: bit i is counter i's
+
+-- "clear the counters of the set bits"; "only bits 0 to 15 act"
+pub cleared-bit : (d : ℕ) (b : Bank) (i : ℕ) → length (b .values) ≡ 16 → i < 16 → getD (cleared (d % 2 ^ 16) b .values) i 0 ≡ cond (bit d i) 0 (getD (b .values) i 0)
+cleared-bit d b i long h =
+    each-at (λ j v. cond (bit (d % 2 ^ 16) j) 0 v) i (b .values) (omega arith)
+    ∙ ap (λ (t : Bool). cond t 0 (getD (b .values) i 0)) (bit-mod 16 d i h)
 
 module _ (d : ℕ) (s : Switches) (i : ℕ) (h : i < 16) where
   -- "enable the counters of the set bits"
@@ -122,3 +146,7 @@ module _ (d : ℕ) (s : Switches) (i : ℕ) (h : i < 16) where
 
   pub high-bit : bit (selecting d s .high) i ≡ bit d (32 + i)
   high-bit = bit-mod 16 (d / 2 ^ 32) i h ∙ ap (λ (n : ℕ). eqb (n % 2) 1) (shr-shr d 32 i)
+
+  -- after a write of MUX SEL a counter counts the kind whose number its two bits of the data have
+  pub written-field : (k : Kind) → due k (selecting d s) i ≡ (bit (s .enabled) i && eqb (fieldAt d (32 + i) d i) (fieldOf k))
+  written-field k = ap (λ (b : Bool). bit (s .enabled) i && b) (ap₂ (selects k) high-bit low-bit ∙ selects-at k d (32 + i) d i)

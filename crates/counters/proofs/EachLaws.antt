@@ -68,6 +68,10 @@ turn f vs now i v h e p =
     ap₂ (λ (l : List ℕ) (x : ℕ). set l i x) e (p ∙ ap (f i) (ap (λ (l : List ℕ). getD l i 0) e ∙ next-turn f vs i h))
     ∙ one-turn f vs i h
 
+-- the end of the loop, at the turn n
+pub turned-end : (f : ℕ → ℕ → ℕ) (vs now : List ℕ) (i n : ℕ) → now ≡ turned f vs i → i ≡ n → length vs ≡ n → now ≡ each f 0 vs
+turned-end f vs now i n e end long = e ∙ ap (turned f vs) end ∙ turned-all f vs n long
+
 -- ---- events
 
 -- two sets of counters that agree at each place

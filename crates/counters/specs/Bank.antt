@@ -3,7 +3,12 @@ use Prim.Native.Nat.{ℕ, suc, _+_, _/_, _%_, _^_}
 use mathlib.Core.Bool.{Bool, cond}
 use mathlib.Core.List.{List, [], _∷_}
 use lib.Dec.{eqb}
+use lib.ListN.{replicate}
 use Rattle.counters.specs.declared.bank.Bank.{Bank}
+
+-- "every part becomes zero"
+abbrev pub zeroBank : Bank
+zeroBank = record { values = replicate 16 0; shadows = replicate 16 0 }
 
 -- bit i of x
 abbrev pub bit : ℕ → ℕ → Bool

@@ -10,12 +10,26 @@ use Rattle.counters.specs.declared.switches.Switches.{Switches}
 use Rattle.counters.specs.declared.switches.Kind.{Kind}
 use Rattle.counters.specs.declared.switches.Kind.the-variants.{Slow, External, Software, Node}
 
+-- "every part becomes zero"
+abbrev pub zeroSwitches : Switches
+zeroSwitches = record { enabled = 0; low = 0; high = 0; phase = 0 }
+
 -- "00 slow clock, 01 external, 10 software, 11 node clock": high bit, low bit
 abbrev pub selects : Kind → Bool → Bool → Bool
 selects Slow high low = not high && not low
 selects External high low = not high && low
 selects Software high low = high && not low
 selects Node high low = high && low
+
+-- the same by number, high bit first: the field of each kind, and the field that two numbers have at bits h and l
+abbrev pub fieldOf : Kind → ℕ
+fieldOf Slow = 0
+fieldOf External = 1
+fieldOf Software = 2
+fieldOf Node = 3
+
+abbrev pub fieldAt : ℕ → ℕ → ℕ → ℕ → ℕ
+fieldAt high h low l = 2 * (high / 2 ^ h % 2) + low / 2 ^ l % 2
 
 -- "An event counts if the counter is enabled and its field selects that kind"
 abbrev pub due : Kind → Switches → ℕ → Bool
@@ -42,15 +56,15 @@ fired i s b = counting (λ j. eqb j i && due Software s j) 1 b
 
 -- "enable the counters of the set bits"; "only bits 0 to 15 act"
 abbrev pub enabling : ℕ → Switches → Switches
-enabling d s = record { enabled = bitOr (s .enabled) (d % 2 ^ 16); low = s .low; high = s .high; phase = s .phase }
+enabling bits s = record { enabled = bitOr (s .enabled) (bits % 2 ^ 16); low = s .low; high = s .high; phase = s .phase }
 
 -- "disable the counters of the set bits"
 abbrev pub disabling : ℕ → Switches → Switches
-disabling d s = record { enabled = bitAnd (s .enabled) (2 ^ 16 - 1 - d % 2 ^ 16); low = s .low; high = s .high; phase = s .phase }
+disabling bits s = record { enabled = bitAnd (s .enabled) (2 ^ 16 - 1 - bits % 2 ^ 16); low = s .low; high = s .high; phase = s .phase }
 
 -- "MUX SEL keeps bits 0 to 15 and 32 to 47; the others read zero"
 abbrev pub selecting : ℕ → Switches → Switches
-selecting d s = record { enabled = s .enabled; low = d % 2 ^ 16; high = d / 2 ^ 32 % 2 ^ 16; phase = s .phase }
+selecting bits s = record { enabled = s .enabled; low = bits % 2 ^ 16; high = bits / 2 ^ 32 % 2 ^ 16; phase = s .phase }
 
 abbrev pub selection : Switches → ℕ
 selection s = s .low + 2 ^ 32 * s .high

@@ -5,7 +5,7 @@ ghost use mathlib.Core.Path.{_≡_};
 ghost use mathlib.Core.Bool.{cond};
 ghost use lib.Dec.{eqb};
 ghost use lib.ListN.{getD};
-ghost use Rattle.counters.specs.Bank.{bit, cleared, copied, counting, each, grown};
+ghost use Rattle.counters.specs.Bank.{bit, cleared, copied, counting, each, grown, zeroBank};
 ghost use Rattle.counters.specs.Due.{fired, signalled, ticked};
 
 pub struct Bank {
@@ -14,6 +14,16 @@ pub struct Bank {
 }
 
 impl Bank {
+    // All counters and shadows zero.
+    pub fn zero() -> Bank
+        ensures { λ r. ⌜ r ≡ zeroBank ⌝ }
+    {
+        Bank {
+            values: [0; 16],
+            shadows: [0; 16],
+        }
+    }
+
     // A count of events of a kind, for the counters that they are due to.
     pub fn ticked(self, s: Switches, kind: Kind, times: u32) -> Bank
         ensures { λ r. ⌜ r ≡ ticked kind times s self ⌝ }
@@ -42,9 +52,9 @@ impl Bank {
     fn counted(mut self, mask: u16, times: u32) -> Bank
         ensures { λ r. ⌜ r ≡ counting (bit mask) times self ⌝ }
     {
-        let before = self.values;
-        let after = next_values(before, mask, false, times);
-        self.values = after;
+        let values = self.values;
+        let next = grown_values(values, mask, times);
+        self.values = next;
         self
     }
 
@@ -63,9 +73,9 @@ impl Bank {
     pub fn cleared(mut self, mask: u16) -> Bank
         ensures { λ r. ⌜ r ≡ cleared mask self ⌝ }
     {
-        let before = self.values;
-        let after = next_values(before, mask, true, 0);
-        self.values = after;
+        let values = self.values;
+        let next = cleared_values(values, mask);
+        self.values = next;
         self
     }
 
@@ -86,30 +96,33 @@ impl Bank {
     }
 }
 
-// A counter that is chosen grows, from zero where it begins anew.
-fn next_value(value: u32, chosen: bool, anew: bool, times: u32) -> u32
-    ensures { λ r. ⌜ r ≡ cond chosen (grown (cond anew 0 value) times) value ⌝ }
-{
-    if chosen {
-        let start = start_of(value, anew);
-        return std::num::wrapping_add_u32(start, times);
-    }
-    value
-}
-
-fn start_of(value: u32, anew: bool) -> u32
-    ensures { λ r. ⌜ r ≡ cond anew 0 value ⌝ }
-{
-    if anew { 0 } else { value }
-}
-
-fn next_values(mut values: [u32; 16], mask: u16, anew: bool, times: u32) -> [u32; 16]
-    ensures { λ r. ⌜ r ≡ each (λ i v. cond (bit mask i) (grown (cond anew 0 v) times) v) 0 values ⌝ }
+// The counters of the mask grow by `times`, and wrap.
+fn grown_values(mut values: [u32; 16], mask: u16, times: u32) -> [u32; 16]
+    ensures { λ r. ⌜ r ≡ each (λ i v. cond (bit mask i) (grown v times) v) 0 values ⌝ }
 {
     let mut i = 0;
     while i < 16 {
-        values[i] = next_value(values[i], (mask >> i) % 2 == 1, anew, times);
+        let grown = std::num::wrapping_add_u32(values[i], times);
+        values[i] = chosen(values[i], (mask >> i) % 2 == 1, grown);
         i += 1;
     }
     values
+}
+
+// The counters of the mask become zero.
+fn cleared_values(mut values: [u32; 16], mask: u16) -> [u32; 16]
+    ensures { λ r. ⌜ r ≡ each (λ i v. cond (bit mask i) 0 v) 0 values ⌝ }
+{
+    let mut i = 0;
+    while i < 16 {
+        values[i] = chosen(values[i], (mask >> i) % 2 == 1, 0);
+        i += 1;
+    }
+    values
+}
+
+fn chosen(old: u32, yes: bool, new: u32) -> u32
+    ensures { λ r. ⌜ r ≡ cond yes new old ⌝ }
+{
+    if yes { new } else { old }
 }

@@ -1,6 +1,6 @@
 // What makes an event due to a counter: the enabled set, MUX SEL's two halves, and the slow clock's phase.
 ghost use mathlib.Core.Path.{_≡_};
-ghost use Rattle.counters.specs.Due.{disabling, due, dueMask, enabling, selecting, selection, slowEvents, ticking};
+ghost use Rattle.counters.specs.Due.{disabling, due, dueMask, enabling, selecting, selection, slowEvents, ticking, zeroSwitches};
 
 // The four kinds of events that a counter can count.
 pub enum Kind {
@@ -17,15 +17,34 @@ pub struct Switches {
     pub phase: u16,
 }
 
+// 2^16 and 2^32, and sixteen bits of which all are set.
+const TWO_16: u64 = 1 << 16;
+
+const TWO_32: u64 = 1 << 32;
+
+const SIXTEEN_ONES: u16 = 65535;
+
 impl Switches {
+    // Nothing enabled, every field 00, the phase at its start.
+    pub fn zero() -> Switches
+        ensures { λ r. ⌜ r ≡ zeroSwitches ⌝ }
+    {
+        Switches {
+            enabled: 0,
+            low: 0,
+            high: 0,
+            phase: 0,
+        }
+    }
+
     // The counters that an event of a kind is due to, a bit for each.
     pub fn due_to(self, kind: Kind) -> u16
         ensures { λ r. ⌜ r ≡ dueMask kind self ⌝ }
     {
         match kind {
-            Kind::Slow => self.enabled & ((65535 - self.high) & (65535 - self.low)),
-            Kind::External => self.enabled & ((65535 - self.high) & self.low),
-            Kind::Software => self.enabled & (self.high & (65535 - self.low)),
+            Kind::Slow => self.enabled & ((SIXTEEN_ONES - self.high) & (SIXTEEN_ONES - self.low)),
+            Kind::External => self.enabled & ((SIXTEEN_ONES - self.high) & self.low),
+            Kind::Software => self.enabled & (self.high & (SIXTEEN_ONES - self.low)),
             Kind::Node => self.enabled & (self.high & self.low),
         }
     }
@@ -43,32 +62,32 @@ impl Switches {
         false
     }
 
-    pub fn enabling(mut self, word: u64) -> Switches
-        ensures { λ r. ⌜ r ≡ enabling word self ⌝ }
+    pub fn enabling(mut self, bits: u64) -> Switches
+        ensures { λ r. ⌜ r ≡ enabling bits self ⌝ }
     {
-        self.enabled = self.enabled | (word % 65536) as u16;
+        self.enabled = self.enabled | (bits % TWO_16) as u16;
         self
     }
 
-    pub fn disabling(mut self, word: u64) -> Switches
-        ensures { λ r. ⌜ r ≡ disabling word self ⌝ }
+    pub fn disabling(mut self, bits: u64) -> Switches
+        ensures { λ r. ⌜ r ≡ disabling bits self ⌝ }
     {
-        self.enabled = self.enabled & (65535 - (word % 65536) as u16);
+        self.enabled = self.enabled & (SIXTEEN_ONES - (bits % TWO_16) as u16);
         self
     }
 
-    pub fn selecting(mut self, word: u64) -> Switches
-        ensures { λ r. ⌜ r ≡ selecting word self ⌝ }
+    pub fn selecting(mut self, bits: u64) -> Switches
+        ensures { λ r. ⌜ r ≡ selecting bits self ⌝ }
     {
-        self.low = (word % 65536) as u16;
-        self.high = (word / 4294967296 % 65536) as u16;
+        self.low = (bits % TWO_16) as u16;
+        self.high = (bits / TWO_32 % TWO_16) as u16;
         self
     }
 
     pub fn selection(self) -> u64
         ensures { λ r. ⌜ r ≡ selection self ⌝ }
     {
-        self.low as u64 + 4294967296 * self.high as u64
+        self.low as u64 + TWO_32 * self.high as u64
     }
 
     // How many slow events fall within a count of Timestamp ticks.

@@ -5,11 +5,10 @@ use mathlib.Core.List.{List, [], _∷_}
 use lib.Dec.{eqb}
 use lib.ListN.{getD, length}
 use Rattle.samples.specs.Layout.{firstChip, sampleBytes, sampleWords}
-use Rattle.samples.specs.Read.{answerNumber, readPart}
+use Rattle.samples.specs.Read.{readPart}
 use Rattle.samples.specs.declared.sample.Sample.{Sample}
 use Rattle.chip.specs.Chip.{fresh}
 use Rattle.chip.specs.Operation.{Operation, step}
-use Rattle.chip.specs.Reply.{replyNumber}
 use Rattle.chip.specs.declared.chip.Chip.{Chip}
 
 -- one operation of a script: with the number that it must reply, or with number and value
@@ -27,10 +26,10 @@ unfoldable pub runs : List Line → Chip → Bool
 runs [] c = true
 runs (replies op n ∷ ls) c =
     let a = step op c in
-    eqb (replyNumber (a .reply)) n && runs ls (a .chip)
+    eqb (a .number) n && runs ls (a .chip)
 runs (gives op n v ∷ ls) c =
     let a = step op c in
-    eqb (replyNumber (a .reply)) n && (eqb (a .value) v && runs ls (a .chip))
+    eqb (a .number) n && (eqb (a .value) v && runs ls (a .chip))
 
 unfoldable pub sameNumbers : List ℕ → List ℕ → Bool
 sameNumbers [] [] = true
@@ -44,7 +43,7 @@ holds (script ls) = runs ls fresh
 holds (bytesAre s bytes last) =
     let words = sampleWords firstChip s in
     sameNumbers (sampleBytes firstChip s) bytes && eqb (getD words (length words - 1) 0) last
-holds (readerSays words n) = eqb (answerNumber (readPart firstChip words .answer)) n
+holds (readerSays words n) = eqb (readPart firstChip words .number) n
 
 -- and of a table
 unfoldable pub allHold : List Row → Bool

@@ -5,9 +5,13 @@ use mathlib.Core.Path.{_≡_, refl, sym, ap, _∙_}
 use mathlib.Core.Bool.{Bool, true, false, cond, _||_, false≢true, or-assoc, or-comm}
 use mathlib.Core.List.{List, [], _∷_, _++_}
 use lib.ListN.{length, take, drop, getD, replicate}
-use Rattle.samples.specs.Layout.{resource}
-use Rattle.queue.specs.Queue.{anyResource, heldSample, zeroHeld}
+use Rattle.words.proofs.WordLaws.{word-some}
+use Rattle.samples.specs.Layout.{firstChip, resource}
+use Rattle.samples.specs.declared.sample.Sample.{Sample}
+use Rattle.samples.proofs.SampleLaws.{sample-word}
+use Rattle.queue.specs.Queue.{anyResource, firstCount, firstHeld, heldSample, nextWord, zeroHeld}
 use Rattle.queue.specs.declared.queue.Held.{Held}
+use Rattle.queue.specs.declared.queue.Queue.{Queue}
 
 -- the last seven of eight, and one more, are what is left without the first, and one more
 pub seven : (hs : List Held) (d : Held) → length hs ≡ 8 → getD hs 1 d ∷ getD hs 2 d ∷ getD hs 3 d ∷ getD hs 4 d ∷ getD hs 5 d ∷ getD hs 6 d ∷ getD hs 7 d ∷ d ∷ [] ≡ drop 1 hs ++ (d ∷ [])
@@ -63,3 +67,9 @@ held-sixteen shadows h e = go (resource (h .header))
     go : (r : Bool) → length (cond r shadows (replicate 16 0)) ≡ 16
     go true = e
     go false = refl
+
+-- the next word of a sample that is held is not 0
+pub next-some : (shadows : List ℕ) (q : Queue) → length shadows ≡ 16 → q .sent < firstCount q → nextWord shadows q ≡ 0 → ⊥
+next-some shadows q sixteen h e =
+    let s : Sample = heldSample shadows (firstHeld q) in
+    word-some _ _ (sym (sample-word firstChip s (held-sixteen shadows (firstHeld q) sixteen) (q .sent) h) ∙ e)

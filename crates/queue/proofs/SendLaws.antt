@@ -9,9 +9,13 @@ use lib.Dec.{eqb}
 use lib.ListN.{length, drop, getD, set, length-append, length-set}
 use lib.Seq.{drop-cons, set-at, append-snoc}
 use borrow.Author.Tests.{eq-eqb, ne-eqb, eqb-true, eqb-false}
-use Rattle.queue.specs.Queue.{advanced, nextWord, sendBuffer, sendMany, sendQueue, sendWords}
+use Rattle.queue.specs.Queue.{advanced, nextWord, sendBuffer, sendMany, sendOne, sendQueue, sendWords}
 use Rattle.queue.specs.declared.queue.Queue.{Queue}
 use Rattle.queue.specs.declared.queue.SentMany.{SentMany}
+
+-- one word where something is held
+pub send-next : (sh : List ℕ) (q : Queue) → eqb (q .held) 0 ≡ false → sendOne sh q ≡ record { queue = advanced q; word = nextWord sh q }
+send-next sh q e = rw e
 
 -- nothing held, nothing sent
 pub send-none : (n : ℕ) (sh : List ℕ) (q : Queue) → q .held ≡ 0 → (sendWords n sh q ≡ []) × (sendQueue n q ≡ q)

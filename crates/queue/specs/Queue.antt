@@ -67,9 +67,10 @@ shifted q = record { places = drop 1 (q .places) ++ (zeroHeld ∷ []); held = q 
 abbrev pub advanced : Queue → Queue
 advanced q = cond (ltb (q .sent + 1) (firstCount q)) (record { places = q .places; held = q .held; sent = q .sent + 1 }) (shifted q)
 
--- one word; with nothing held it is a word of an empty place and means nothing, so whoever sends asks first
+-- "Send one word": the next one; with nothing held the queue stays, and the word is 0, which no sample's word is (`word-some` of words)
 abbrev pub sendOne : List ℕ → Queue → Sent
-sendOne shadows q = record { queue = advanced q; word = nextWord shadows q }
+sendOne shadows q =
+    cond (eqb (q .held) 0) (record { queue = q; word = 0 }) (record { queue = advanced q; word = nextWord shadows q })
 
 -- the words that single sends give, one after another, at most n and until nothing is held
 unfoldable pub sendWords : ℕ → List ℕ → Queue → List ℕ

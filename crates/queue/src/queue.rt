@@ -5,8 +5,9 @@ use samples::sample::is_resource;
 use samples::sample::word_count;
 use words::word::word;
 ghost use mathlib.Core.Path.{_≡_};
+ghost use mathlib.Core.Bool.{cond};
 ghost use Prim.Native.Nat.{_-_, _<_, min};
-ghost use lib.ListN.{getD, length, take};
+ghost use lib.ListN.{getD, length, set, take};
 ghost use Rattle.queue.specs.Queue.{advanced, anyResource, busy, emptyQueue, firstCount, full, heldSample, insideQueue, nextWord, pushed, sendBuffer, sendMany, sendOne, shifted, zeroHeld};
 ghost use Rattle.samples.specs.Layout.{firstChip, resource, sampleBytes, sampleLength};
 
@@ -28,7 +29,7 @@ pub struct Queue {
 // A queue after one word was sent, and the word.
 pub struct Sent {
     pub queue: Queue,
-    pub word: u64,
+    pub word: u16,
 }
 
 // A queue after some words were sent into a buffer, and how many.
@@ -104,24 +105,27 @@ impl Queue {
     {
         let held = self.held;
         if held < 8 {
-            let mut places = self.places;
-            places[held] = sample;
-            self.places = places;
+            let places = self.places;
+            let next = stored(places, held, sample);
+            self.places = next;
             self.held = held + 1;
         }
         self
     }
 
-    // The next word, and the queue after it: with a sample's last word its place is free.
+    // The next word, and the queue after it: with a sample's last word its place is free. With nothing held the word is 0.
     pub fn send(self, shadows: [u32; 16]) -> Sent
         ensures { λ r. ⌜ r ≡ sendOne shadows self ⌝ }
     {
+        if self.held == 0 {
+            return Sent {
+                queue: self,
+                word: 0,
+            };
+        }
         let word = self.next_word(shadows);
         let queue = self.advanced();
-        Sent {
-            queue,
-            word: word as u64,
-        }
+        Sent { queue, word }
     }
 }
 
@@ -197,6 +201,28 @@ impl Queue {
             sent: 0,
         }
     }
+}
+
+// The places with a sample stored at one of them. Every place is visited, so that the compiler keeps each by itself.
+fn stored(mut places: [Held; 8], at: usize, sample: Held) -> [Held; 8]
+    ensures { λ r. ⌜ r ≡ set places at sample ⌝ }
+{
+    let mut i = 0;
+    while i < 8 {
+        let old = places[i];
+        places[i] = chosen(old, i == at, sample);
+        i += 1;
+    }
+    places
+}
+
+fn chosen(old: Held, yes: bool, new: Held) -> Held
+    ensures { λ r. ⌜ r ≡ cond yes new old ⌝ }
+{
+    if yes {
+        return new;
+    }
+    old
 }
 
 fn one_less(n: usize) -> usize

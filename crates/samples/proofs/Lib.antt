@@ -1,6 +1,7 @@
 -- The laws that belong to no one function.
 pub mod Gather
 pub mod Numbers
+pub mod PlaceLaws
 pub mod ReadLaws
 pub mod RoundTrip
 pub mod SampleLaws

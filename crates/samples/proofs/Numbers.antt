@@ -14,47 +14,60 @@ use lib.ListN.{getD, length, length-append, List·getD-append}
 use lib.Seq.{append-snoc, getD-append-add}
 use borrow.Author.Tests.{eq-eqb, eqb-false, eqb-true, ltb-false, ltb-true, ne-eqb}
 use Rattle.words.specs.Word.{byteOf, marked, oddOnes, tooLarge}
-use Rattle.samples.specs.Layout.{Widths, resource, sampleLength}
-use Rattle.samples.specs.Write.{writable, writeAnswer, writtenCount, writtenNumber}
-use Rattle.samples.specs.Read.{answerNumber, faultAt, isGood, readPart, refusal, sampleOf, scan, wanted, zeroSample}
+use Rattle.samples.specs.Layout.{Widths, resource, sampleLength, zeroSample}
+use Rattle.samples.specs.Write.{Row, row, writable, writeAnswer, writtenRow}
+use Rattle.samples.specs.Read.{Found, faultAt, found, foundBy, isGood, readPart, sampleOf, scan, verdictNumber, wanted}
 use Rattle.samples.specs.declared.sample.Sample.{Sample}
-use Rattle.samples.specs.declared.reader.Answer.{Answer}
-use Rattle.samples.specs.declared.reader.Answer.the-variants.{Good, Unfinished, TooLarge, Parity, Header, Mark}
+use Rattle.samples.specs.declared.reader.Reading.{Reading}
+use Rattle.samples.specs.declared.reader.Verdict.{Verdict}
+use Rattle.samples.specs.declared.reader.Verdict.the-variants.{Good, Unfinished, TooLarge, Parity, Header, Mark}
 use Rattle.samples.specs.declared.writer.Written.{Written}
 use Rattle.samples.specs.declared.writer.Written.the-variants.{Short, Unfit, Words}
 use Rattle.samples.proofs.ReadLaws.{faultBy, scan-word}
 
 -- ---- the writer: 17 exactly for a sample that isn't writable, 18 for a writable one without room
 
-by-two : Bool → Bool → ℕ → Written
-by-two fit room n = cond fit (cond room (Words n) Short) Unfit
+by-two : Bool → Bool → ℕ → Row
+by-two fit room n = cond fit (cond room (row 0 n) (row 18 0)) (row 17 0)
 
-written-tests : (fit room : Bool) (n : ℕ) → (eqb (writtenNumber (by-two fit room n)) 17 ≡ not fit) × (eqb (writtenNumber (by-two fit room n)) 18 ≡ (fit && not room)) × (writtenCount (by-two fit room n) ≡ cond (fit && room) n 0)
+written-tests : (fit room : Bool) (n : ℕ) → (eqb (by-two fit room n .number) 17 ≡ not fit) × (eqb (by-two fit room n .number) 18 ≡ (fit && not room)) × (by-two fit room n .count ≡ cond (fit && room) n 0)
 unfolding by-two
 written-tests true true n = (refl, refl, refl)
 written-tests true false n = (refl, refl, refl)
 written-tests false room n = (refl, refl, refl)
 
 module _ (w : Widths) (s : Sample) (room : ℕ) where
-  pub writes-17 : eqb (writtenNumber (writeAnswer w s room)) 17 ≡ not (writable w s)
+  pub writes-17 : eqb (writeAnswer w s room .number) 17 ≡ not (writable w s)
   unfolding writeAnswer by-two
   writes-17 = written-tests (writable w s) (leb (sampleLength w (resource (s .header))) room) (sampleLength w (resource (s .header))) .0
 
-  pub writes-18 : eqb (writtenNumber (writeAnswer w s room)) 18 ≡ (writable w s && not (leb (sampleLength w (resource (s .header))) room))
+  pub writes-18 : eqb (writeAnswer w s room .number) 18 ≡ (writable w s && not (leb (sampleLength w (resource (s .header))) room))
   unfolding writeAnswer by-two
   writes-18 = written-tests (writable w s) (leb (sampleLength w (resource (s .header))) room) (sampleLength w (resource (s .header))) .1
 
-  pub writes-count : writtenCount (writeAnswer w s room) ≡ cond (writable w s && leb (sampleLength w (resource (s .header))) room) (sampleLength w (resource (s .header))) 0
+  pub writes-count : writeAnswer w s room .count ≡ cond (writable w s && leb (sampleLength w (resource (s .header))) room) (sampleLength w (resource (s .header))) 0
   unfolding writeAnswer by-two
   writes-count = written-tests (writable w s) (leb (sampleLength w (resource (s .header))) room) (sampleLength w (resource (s .header))) .2
 
+-- two answers with equal rows are equal, so the writer's contract leaves one
+pub written-one : (a b : Written) → writtenRow a ≡ writtenRow b → a ≡ b
+written-one a b e = sym (back a) ∙ ap of e ∙ back b
+  where
+    of : Row → Written
+    of r = cond (eqb (r .number) 17) Unfit (cond (eqb (r .number) 18) Short (Words (r .count)))
+
+    back : (a : Written) → of (writtenRow a) ≡ a
+    back (Words n) = refl
+    back Unfit = refl
+    back Short = refl
+
 -- ---- the reader: the number of the scan, and within a word the order 21, 22, 23, 24
 
-pub reads-number : (w : Widths) (ws : List ℕ) → answerNumber (readPart w ws .answer) ≡ answerNumber (scan (wanted w ws) 0 ws)
+pub reads-number : (w : Widths) (ws : List ℕ) → readPart w ws .number ≡ verdictNumber (scan (wanted w ws) 0 ws)
 unfolding readPart
 reads-number w ws = go (scan (wanted w ws) 0 ws)
   where
-    go : (a : Answer) → answerNumber (cond (isGood a) (record { sample = sampleOf w (map byteOf ws); count = wanted w ws; answer = Good }) (refusal a) .answer) ≡ answerNumber a
+    go : (v : Verdict) → foundBy v (sampleOf w (map byteOf ws)) (wanted w ws) .number ≡ verdictNumber v
     go Good = refl
     go Unfinished = refl
     go TooLarge = refl
@@ -62,7 +75,25 @@ reads-number w ws = go (scan (wanted w ws) 0 ws)
     go Header = refl
     go Mark = refl
 
-fault-tests : (large odd header last mark : Bool) → (eqb (answerNumber (faultBy large odd header last mark)) 20 ≡ false) × (eqb (answerNumber (faultBy large odd header last mark)) 21 ≡ large) × (eqb (answerNumber (faultBy large odd header last mark)) 22 ≡ (not large && not odd)) × (eqb (answerNumber (faultBy large odd header last mark)) 23 ≡ (not large && (odd && header))) × (eqb (answerNumber (faultBy large odd header last mark)) 24 ≡ (not large && (odd && (not header && cond last (not mark) mark))))
+-- two readings that are told alike are equal, so the reader's contract leaves one
+pub reading-one : (a b : Reading) → found a ≡ found b → a ≡ b
+reading-one a b e = λ i. record { sample = e i .sample; count = e i .count; verdict = same i }
+  where
+    of : ℕ → Verdict
+    of n = cond (eqb n 0) Good (cond (eqb n 20) Unfinished (cond (eqb n 21) TooLarge (cond (eqb n 22) Parity (cond (eqb n 23) Header Mark))))
+
+    back : (v : Verdict) → of (verdictNumber v) ≡ v
+    back Good = refl
+    back Unfinished = refl
+    back TooLarge = refl
+    back Parity = refl
+    back Header = refl
+    back Mark = refl
+
+    same : a .verdict ≡ b .verdict
+    same = sym (back (a .verdict)) ∙ ap (λ (f : Found). of (f .number)) e ∙ back (b .verdict)
+
+fault-tests : (large odd header last mark : Bool) → (eqb (verdictNumber (faultBy large odd header last mark)) 20 ≡ false) × (eqb (verdictNumber (faultBy large odd header last mark)) 21 ≡ large) × (eqb (verdictNumber (faultBy large odd header last mark)) 22 ≡ (not large && not odd)) × (eqb (verdictNumber (faultBy large odd header last mark)) 23 ≡ (not large && (odd && header))) × (eqb (verdictNumber (faultBy large odd header last mark)) 24 ≡ (not large && (odd && (not header && cond last (not mark) mark))))
 fault-tests true odd header last mark = (refl, refl, refl, refl, refl)
 fault-tests false false header last mark = (refl, refl, refl, refl, refl)
 fault-tests false true true last mark = (refl, refl, refl, refl, refl)
@@ -73,16 +104,16 @@ fault-tests false true false false false = (refl, refl, refl, refl, refl)
 
 -- the word at a place of a sample of n words, which alone is never 20: above 1023; else parity; else, of the first, header bits 5 to 7;
 -- else the end mark missing on the last word or set on another
-pub fault-numbers : (n place w : ℕ) → (eqb (answerNumber (faultAt n place w)) 20 ≡ false) × (eqb (answerNumber (faultAt n place w)) 21 ≡ tooLarge w) × (eqb (answerNumber (faultAt n place w)) 22 ≡ (not (tooLarge w) && not (oddOnes w))) × (eqb (answerNumber (faultAt n place w)) 23 ≡ (not (tooLarge w) && (oddOnes w && (eqb place 0 && leb 32 (byteOf w))))) × (eqb (answerNumber (faultAt n place w)) 24 ≡ (not (tooLarge w) && (oddOnes w && (not (eqb place 0 && leb 32 (byteOf w)) && cond (eqb (suc place) n) (not (marked w)) (marked w)))))
+pub fault-numbers : (n place w : ℕ) → (eqb (verdictNumber (faultAt n place w)) 20 ≡ false) × (eqb (verdictNumber (faultAt n place w)) 21 ≡ tooLarge w) × (eqb (verdictNumber (faultAt n place w)) 22 ≡ (not (tooLarge w) && not (oddOnes w))) × (eqb (verdictNumber (faultAt n place w)) 23 ≡ (not (tooLarge w) && (oddOnes w && (eqb place 0 && leb 32 (byteOf w))))) × (eqb (verdictNumber (faultAt n place w)) 24 ≡ (not (tooLarge w) && (oddOnes w && (not (eqb place 0 && leb 32 (byteOf w)) && cond (eqb (suc place) n) (not (marked w)) (marked w)))))
 unfolding faultAt
 fault-numbers n place w = fault-tests (tooLarge w) (oddOnes w) (eqb place 0 && leb 32 (byteOf w)) (eqb (suc place) n) (marked w)
 
 -- with 20 to 24 the sample is all zeros and the count 0
-pub refused-zeros : (w : Widths) (ws : List ℕ) → isGood (readPart w ws .answer) ≡ false → (readPart w ws .sample ≡ zeroSample) × (readPart w ws .count ≡ 0)
+pub refused-zeros : (w : Widths) (ws : List ℕ) → eqb (readPart w ws .number) 0 ≡ false → (readPart w ws .sample ≡ zeroSample) × (readPart w ws .count ≡ 0)
 unfolding readPart
 refused-zeros w ws e = go (scan (wanted w ws) 0 ws) e
   where
-    go : (a : Answer) → isGood (cond (isGood a) (record { sample = sampleOf w (map byteOf ws); count = wanted w ws; answer = Good }) (refusal a) .answer) ≡ false → (cond (isGood a) (record { sample = sampleOf w (map byteOf ws); count = wanted w ws; answer = Good }) (refusal a) .sample ≡ zeroSample) × (cond (isGood a) (record { sample = sampleOf w (map byteOf ws); count = wanted w ws; answer = Good }) (refusal a) .count ≡ 0)
+    go : (v : Verdict) → eqb (foundBy v (sampleOf w (map byteOf ws)) (wanted w ws) .number) 0 ≡ false → (foundBy v (sampleOf w (map byteOf ws)) (wanted w ws) .sample ≡ zeroSample) × (foundBy v (sampleOf w (map byteOf ws)) (wanted w ws) .count ≡ 0)
     go Good p = absurd (false≢true (sym p))
     go Unfinished p = (refl, refl)
     go TooLarge p = (refl, refl)

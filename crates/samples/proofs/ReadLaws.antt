@@ -3,7 +3,7 @@
 use Prim.Native.Nat.{ℕ, zero, suc, _+_, _*_, _^_, _≤_, _<_}
 use native.Mathlib.Nat.{mod-lt, zero-lt-suc, lt-of-lt-of-le, pow-le-pow-right, suc-ne-zero}
 use native.Mathlib.Omega.{arith}
-use mathlib.Core.Path.{_≡_, refl, sym, ap, _∙_}
+use mathlib.Core.Path.{_≡_, refl, sym, ap, ap₂, _∙_}
 use mathlib.Core.Bool.{Bool, true, false, cond, not, _&&_, false≢true}
 use mathlib.Core.List.{List, [], _∷_, map}
 use lib.Dec.{eqb, leb}
@@ -13,15 +13,14 @@ use borrow.Author.Tests.{eqb-true}
 use Rattle.words.specs.Bytes.{number}
 use Rattle.words.specs.Word.{tooLarge, oddOnes, marked, byteOf}
 use Rattle.words.proofs.ByteLaws.{number-below}
-use Rattle.samples.specs.Read.{faultAt, gather, isGood, orElse, readAnswer, readPart, refusal, sampleOf, scan, wanted}
+use Rattle.samples.specs.Read.{faultAt, found, foundBy, gather, isGood, orElse, readPart, refusal, sampleOf, scan, wanted}
 use Rattle.samples.specs.Layout.{Widths, firstChip, counterWidths, resource}
 use Rattle.samples.specs.declared.sample.Sample.{Sample}
-use Rattle.samples.specs.declared.reader.Reading.{Reading}
-use Rattle.samples.specs.declared.reader.Answer.{Answer}
-use Rattle.samples.specs.declared.reader.Answer.the-variants.{Good, Unfinished, TooLarge, Parity, Header, Mark}
+use Rattle.samples.specs.declared.reader.Verdict.{Verdict}
+use Rattle.samples.specs.declared.reader.Verdict.the-variants.{Good, Unfinished, TooLarge, Parity, Header, Mark}
 
 -- a word's fault by what its tests say: too large, odd, a bad header, the last place, the mark
-abbrev pub faultBy : Bool → Bool → Bool → Bool → Bool → Answer
+abbrev pub faultBy : Bool → Bool → Bool → Bool → Bool → Verdict
 faultBy large odd header last mark =
     cond large TooLarge (cond (not odd) Parity (cond header Header (cond last (cond mark Good Mark) (cond mark Mark Good))))
 
@@ -35,7 +34,7 @@ unfolding scan
 scan-word n i w ws e = ap (λ (g : Bool). cond g (cond (eqb (suc i) n) Good (scan n (suc i) ws)) (faultAt n i w)) e
 
 -- a good scan has a good first word, and goes on to a good scan unless that word was the last
-pub scan-first : (f : Answer) (t : Bool) (rest : Answer) → isGood (orElse f (cond t Good rest)) ≡ true → (isGood f ≡ true) × (t ≡ false → isGood rest ≡ true)
+pub scan-first : (f : Verdict) (t : Bool) (rest : Verdict) → isGood (orElse f (cond t Good rest)) ≡ true → (isGood f ≡ true) × (t ≡ false → isGood rest ≡ true)
 scan-first Good true rest e = (refl, λ q. absurd (false≢true (sym q)))
 scan-first Good false rest e = (refl, λ q. e)
 scan-first Unfinished t rest e = absurd (false≢true e)
@@ -70,7 +69,7 @@ drop-below zero bs h i = h i
 drop-below (suc k) [] h i = zero-lt-suc 255
 drop-below (suc k) (b ∷ bs) h i = drop-below k bs (λ j. h (suc j)) i
 
-pub is-good : (a : Answer) → isGood a ≡ true → a ≡ Good
+pub is-good : (a : Verdict) → isGood a ≡ true → a ≡ Good
 is-good Good e = refl
 is-good Unfinished e = absurd (false≢true e)
 is-good TooLarge e = absurd (false≢true e)
@@ -109,23 +108,30 @@ sample-read bs counters user stamp source header u t s h c =
 pub number-read : (k start : ℕ) (ws : List ℕ) (x : ℕ) → x ≡ number (take k (drop start (map byteOf ws))) → x < 256 ^ k
 number-read k start ws x e = rw e (number-take k (drop start (map byteOf ws)) (drop-below start (map byteOf ws) (map-below ws)))
 
+-- a refusal has the numbers and values of its case, whatever a sample would have been
+refused-row : (v : Verdict) (s : Sample) (n : ℕ) → isGood v ≡ false → found (refusal v) ≡ foundBy v s n
+refused-row Good s n e = absurd (false≢true (sym e))
+refused-row Unfinished s n e = refl
+refused-row TooLarge s n e = refl
+refused-row Parity s n e = refl
+refused-row Header s n e = refl
+refused-row Mark s n e = refl
+
 -- the reader's answer, case by case
 module _ (w : Widths) (ws : List ℕ) where
-  pub read-good : (n : ℕ) (s : Sample) → n ≡ wanted w ws → isGood (scan n 0 ws) ≡ true → s ≡ sampleOf w (map byteOf ws) → _≡_ {A = Reading} (record { sample = s; count = n; answer = Good }) (readPart w ws)
+  pub read-good : (n : ℕ) (s : Sample) → n ≡ wanted w ws → isGood (scan n 0 ws) ≡ true → s ≡ sampleOf w (map byteOf ws) → foundBy Good s n ≡ readPart w ws
   unfolding readPart
   read-good n s size good given =
       let whole : scan (wanted w ws) 0 ws ≡ Good = ap (λ (k : ℕ). scan k 0 ws) (sym size) ∙ is-good (scan n 0 ws) good in
-      (λ i. record { sample = given i; count = size i; answer = Good })
-      ∙ sym (ap (λ (a : Answer). readAnswer a (wanted w ws) (sampleOf w (map byteOf ws))) whole)
+      ap₂ (foundBy Good) given size ∙ sym (ap (λ (v : Verdict). foundBy v (sampleOf w (map byteOf ws)) (wanted w ws)) whole)
 
-  pub read-bad : (n : ℕ) → n ≡ wanted w ws → isGood (scan n 0 ws) ≡ false → refusal (scan n 0 ws) ≡ readPart w ws
+  pub read-bad : (n : ℕ) → n ≡ wanted w ws → isGood (scan n 0 ws) ≡ false → found (refusal (scan n 0 ws)) ≡ readPart w ws
   unfolding readPart
   read-bad n size bad =
-      let same : scan n 0 ws ≡ scan (wanted w ws) 0 ws = ap (λ (k : ℕ). scan k 0 ws) size in
-      ap refusal same
-      ∙ sym (ap (λ (b : Bool). cond b (record { sample = sampleOf w (map byteOf ws); count = wanted w ws; answer = Good }) (refusal (scan (wanted w ws) 0 ws))) (ap isGood (sym same) ∙ bad))
+      refused-row (scan n 0 ws) (sampleOf w (map byteOf ws)) (wanted w ws) bad
+      ∙ ap (λ (k : ℕ). foundBy (scan k 0 ws) (sampleOf w (map byteOf ws)) (wanted w ws)) size
 
-pub read-empty : (w : Widths) (ws : List ℕ) → length ws ≡ 0 → refusal Unfinished ≡ readPart w ws
+pub read-empty : (w : Widths) (ws : List ℕ) → length ws ≡ 0 → found (refusal Unfinished) ≡ readPart w ws
 unfolding readPart scan
 read-empty w [] e = refl
 read-empty w (x ∷ ws) e = absurd (suc-ne-zero _ e)

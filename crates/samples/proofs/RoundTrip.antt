@@ -17,7 +17,7 @@ use Rattle.samples.specs.Layout.{Widths, fieldWidths, counterWidths, cou
 use Rattle.samples.specs.Write.{within, allZero, writable}
 use Rattle.samples.specs.Read.{faultAt, gather, isGood, sampleOf, scan}
 use Rattle.samples.specs.declared.sample.Sample.{Sample}
-use Rattle.samples.specs.declared.reader.Answer.the-variants.{Good}
+use Rattle.samples.specs.declared.reader.Verdict.the-variants.{Good}
 use Rattle.samples.proofs.Gather.{both-left, both-right, gather-spread, spread-gather}
 use Rattle.samples.proofs.ReadLaws.{faultBy, fault-by, drop-below, scan-first, scan-word}
 use Rattle.samples.proofs.SampleLaws.{fields-length}

@@ -6,47 +6,27 @@ use mathlib.Core.Path.{_≡_, refl, ap, ap₂, _∙_, subst}
 use mathlib.Core.Bool.{Bool, true, false, cond}
 use mathlib.Core.List.{List, [], _∷_}
 use lib.Dec.{eqb}
-use lib.ListN.{getD, length, length-append, List·getD-eq-default}
+use lib.ListN.{getD, length, take, length-append, List·getD-eq-default}
 use Rattle.words.specs.Bytes.{byteAt}
 use Rattle.words.specs.Word.{wordOf, wordsOf}
 use Rattle.words.proofs.WordLaws.{words-length, words-at}
-use Rattle.samples.specs.Layout.{Widths, fieldBytes, fieldWidths, firstChip, total, counterBytes, counterWidths, sampleBytes, sampleWords, sampleLength, resource}
+use Rattle.samples.specs.Layout.{Widths, fieldBytes, fieldWidths, firstChip, total, counterBytes, counterWidths, sampleBytes, sampleWords, sampleLength, resource, spread}
 use Rattle.samples.specs.declared.sample.Sample.{Sample}
-use Rattle.samples.proofs.Spread.{spread-here, spread-add, spread-length, at-before, at-add}
+use Rattle.samples.proofs.Spread.{at-add, at-before, below-append, spread-at, spread-below, spread-length}
 
 pub fields-length : (w : Widths) (header source stamp user : ℕ) → length (fieldBytes w header source stamp user) ≡ total (fieldWidths w)
 unfolding fieldBytes
 fields-length w header source stamp user = spread-length (fieldWidths w) (header ∷ source ∷ stamp ∷ user ∷ []) refl
 
-module _ (header source stamp user i : ℕ) where
-  pub at-header : i < 1 → getD (fieldBytes firstChip header source stamp user) i 0 ≡ byteAt header i
-  unfolding fieldBytes
-  at-header h = spread-here 1 header i _ _ h
+-- the bytes of a field stand after the widths of those before it: byte j of field k, counted from 0
+pub at-field : (w : Widths) (header source stamp user k i j : ℕ) → j < getD (fieldWidths w) k 0 → i ≡ total (take k (fieldWidths w)) + j → getD (fieldBytes w header source stamp user) i 0 ≡ byteAt (getD (header ∷ source ∷ stamp ∷ user ∷ []) k 0) j
+unfolding fieldBytes
+at-field w header source stamp user k i j h e =
+    ap (λ (p : ℕ). getD (fieldBytes w header source stamp user) p 0) e
+    ∙ spread-at (fieldWidths w) (header ∷ source ∷ stamp ∷ user ∷ []) k j refl h
 
-  pub at-source : 1 ≤ i → i < 5 → getD (fieldBytes firstChip header source stamp user) i 0 ≡ byteAt source (i - 1)
-  unfolding fieldBytes
-  at-source l h =
-      let e : i ≡ 1 + (i - 1) = omega arith in
-      ap (λ (j : ℕ). getD (fieldBytes firstChip header source stamp user) j 0) e
-      ∙ spread-add 1 header (i - 1) _ _ ∙ spread-here 4 source (i - 1) _ _ (omega arith)
-
-  pub at-stamp : 5 ≤ i → i < 10 → getD (fieldBytes firstChip header source stamp user) i 0 ≡ byteAt stamp (i - 5)
-  unfolding fieldBytes
-  at-stamp l h =
-      let e : i ≡ 1 + (4 + (i - 5)) = omega arith in
-      ap (λ (j : ℕ). getD (fieldBytes firstChip header source stamp user) j 0) e
-      ∙ spread-add 1 header _ _ _ ∙ spread-add 4 source (i - 5) _ _ ∙ spread-here 5 stamp (i - 5) _ _ (omega arith)
-
-  pub at-user : 10 ≤ i → i < 16 → getD (fieldBytes firstChip header source stamp user) i 0 ≡ byteAt user (i - 10)
-  unfolding fieldBytes
-  at-user l h =
-      let e : i ≡ 1 + (4 + (5 + (i - 10))) = omega arith in
-      ap (λ (j : ℕ). getD (fieldBytes firstChip header source stamp user) j 0) e
-      ∙ spread-add 1 header _ _ _ ∙ spread-add 4 source _ _ _ ∙ spread-add 5 stamp (i - 10) _ _
-      ∙ spread-here 6 user (i - 10) _ _ (omega arith)
-
-  pub at-none : 16 ≤ i → getD (fieldBytes firstChip header source stamp user) i 0 ≡ 0
-  at-none l = List·getD-eq-default (fieldBytes firstChip header source stamp user) 0 (rw (fields-length firstChip header source stamp user) l)
+pub at-none : (header source stamp user i : ℕ) → 16 ≤ i → getD (fieldBytes firstChip header source stamp user) i 0 ≡ 0
+at-none header source stamp user i l = List·getD-eq-default (fieldBytes firstChip header source stamp user) 0 (rw (fields-length firstChip header source stamp user) l)
 
 -- the counters of a Resource sample, and nothing of a Trace sample's
 abbrev counterPart : Sample → List ℕ
@@ -73,6 +53,15 @@ module _ (s : Sample) (i : ℕ) where
 
   pub sample-trace : 16 ≤ i → resource (s .header) ≡ false → getD (sampleBytes firstChip s) i 0 ≡ 0
   sample-trace h r = after h ∙ ap (λ (b : Bool). getD (cond b (counterBytes (s .counters)) []) (i - 16) 0) r
+
+-- a sample's bytes are bytes
+pub bytes-below : (w : Widths) (s : Sample) (i : ℕ) → getD (sampleBytes w s) i 0 < 256
+unfolding sampleBytes fieldBytes counterBytes
+bytes-below w s = below-append (spread (fieldWidths w) (s .header ∷ s .source ∷ s .stamp ∷ s .user ∷ [])) (cond (resource (s .header)) (spread counterWidths (s .counters)) []) (spread-below (fieldWidths w) (s .header ∷ s .source ∷ s .stamp ∷ s .user ∷ [])) (go (resource (s .header)))
+  where
+    go : (r : Bool) (i : ℕ) → getD (cond r (spread counterWidths (s .counters)) []) i 0 < 256
+    go true i = spread-below counterWidths (s .counters) i
+    go false i = omega arith
 
 -- how many bytes and words a sample has, whatever the widths
 module _ (w : Widths) (s : Sample) (sixteen : length (s .counters) ≡ 16) where

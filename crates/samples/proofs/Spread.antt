@@ -1,14 +1,14 @@
 -- Laws of fields laid one after the other, over their widths: what stands at a place, how many bytes there are, and that each
 -- is below 256. Assumes nothing.
 use Prim.Native.Nat.{ℕ, zero, suc, _+_, _-_, _/_, _%_, _≤_, _<_, zero-le}
-use native.Mathlib.Nat.{zero-lt-suc, add-sub-of-le, suc-ne-zero, suc-inj, div-eq-of-lt, mod-eq-of-lt, div-eq-sub-div, mod-eq-sub-mod}
+use native.Mathlib.Nat.{zero-lt-suc, zero-add, add-assoc, add-sub-of-le, not-suc-le-zero, suc-ne-zero, suc-inj, div-eq-of-lt, mod-eq-of-lt, div-eq-sub-div, mod-eq-sub-mod}
 use native.Mathlib.Numerals.{add-one}
 use borrow.Author.Tests.{ltb-true, ltb-false}
 use lib.Dec.{ltb}
 use mathlib.Core.Path.{_≡_, refl, sym, ap, ap₂, _∙_, subst}
 use mathlib.Core.Bool.{Bool, true, false}
 use mathlib.Core.List.{List, [], _∷_, _++_}
-use lib.ListN.{length, getD, replicate, List·getD-append, length-append}
+use lib.ListN.{length, getD, take, replicate, List·getD-append, length-append}
 use lib.Seq.{getD-append-add}
 use Rattle.words.specs.Bytes.{byteAt, lowBytes}
 use Rattle.words.proofs.ByteLaws.{byte-past, low-length, low-at, low-below}
@@ -30,6 +30,14 @@ spread-here n x i ns xs h = at-before (lowBytes n x) (spread ns xs) n i (low-len
 pub spread-add : (n x i : ℕ) (ns xs : List ℕ) → getD (spread (n ∷ ns) (x ∷ xs)) (n + i) 0 ≡ getD (spread ns xs) i 0
 unfolding spread
 spread-add n x i ns xs = at-add (lowBytes n x) (spread ns xs) n i (low-length n x)
+
+-- so the bytes of a field stand after the widths of the fields before it
+pub spread-at : (ns xs : List ℕ) (k i : ℕ) → length xs ≡ length ns → i < getD ns k 0 → getD (spread ns xs) (total (take k ns) + i) 0 ≡ byteAt (getD xs k 0) i
+spread-at [] xs k i e h = absurd (not-suc-le-zero h)
+spread-at (n ∷ ns) [] k i e h = absurd (suc-ne-zero _ (sym e))
+spread-at (n ∷ ns) (x ∷ xs) zero i e h = rw zero-add (spread-here n x i ns xs h)
+spread-at (n ∷ ns) (x ∷ xs) (suc k) i e h =
+    rw add-assoc (spread-add n x (total (take k ns) + i) ns xs ∙ spread-at ns xs k i (suc-inj e) h)
 
 -- how many bytes there are, and that each is one
 pub spread-length : (ns xs : List ℕ) → length xs ≡ length ns → length (spread ns xs) ≡ total ns

@@ -1,7 +1,7 @@
 -- Demand 2 of samples and words, for all widths of Timestamp and user data: reading a written sample gives it back, and words that are
 -- accepted are what writing their sample gives. Assumes nothing.
 use Prim.Native.Nat.{ℕ, zero, suc, _+_, _-_, _≤_, _<_, _%_}
-use native.Mathlib.Nat.{zero-add, mod-eq-of-lt, lt-trans}
+use native.Mathlib.Nat.{zero-add, mod-eq-of-lt, lt-trans, suc-ne-zero}
 use native.Mathlib.Omega.{arith}
 use mathlib.Core.Path.{_≡_, refl, sym, ap, _∙_, subst}
 use mathlib.Core.Bool.{Bool, true, false, cond, _&&_, _||_, false≢true}
@@ -14,24 +14,14 @@ use Rattle.words.specs.Word.{wordsOf, isLast, byteOf}
 use Rattle.words.proofs.WordLaws.{words-bytes, word-byte}
 use Rattle.samples.specs.Layout.{Widths, fieldWidths, counterWidths, counterBytes, fieldBytes, sampleBytes, sampleWords, sampleLength, resource, spread, total}
 use Rattle.samples.specs.Write.{within, allZero, writable}
-use Rattle.samples.specs.Read.{gather, isGood, readPart, refusal, sampleOf, scan, wanted}
+use Rattle.samples.specs.Read.{Found, foundBy, gather, isGood, readPart, sampleOf, scan, wanted}
 use Rattle.samples.specs.declared.sample.Sample.{Sample}
-use Rattle.samples.specs.declared.reader.Reading.{Reading}
-use Rattle.samples.specs.declared.reader.Answer.the-variants.{Good}
+use Rattle.samples.specs.declared.reader.Verdict.{Verdict}
+use Rattle.samples.specs.declared.reader.Verdict.the-variants.{Good, Unfinished, TooLarge, Parity, Header, Mark}
 use Rattle.samples.proofs.Gather.{within-gather}
 use Rattle.samples.proofs.ReadLaws.{header-byte, map-below, drop-below, read-good, scan-enough}
 use Rattle.samples.proofs.RoundTrip.{bytes-back, first-passed, header-fit, sample-back, scan-words, scan-written, sixteen-fit}
-use Rattle.samples.proofs.SampleLaws.{bytes-length}
-use Rattle.samples.proofs.Spread.{below-append, spread-below}
-
--- a sample's bytes are bytes
-bytes-below : (w : Widths) (s : Sample) (i : ℕ) → getD (sampleBytes w s) i 0 < 256
-unfolding sampleBytes fieldBytes counterBytes
-bytes-below w s = below-append (spread (fieldWidths w) (s .header ∷ s .source ∷ s .stamp ∷ s .user ∷ [])) (cond (resource (s .header)) (spread counterWidths (s .counters)) []) (spread-below (fieldWidths w) (s .header ∷ s .source ∷ s .stamp ∷ s .user ∷ [])) (go (resource (s .header)))
-  where
-    go : (r : Bool) (i : ℕ) → getD (cond r (spread counterWidths (s .counters)) []) i 0 < 256
-    go true i = spread-below counterWidths (s .counters) i
-    go false i = omega arith
+use Rattle.samples.proofs.SampleLaws.{bytes-below, bytes-length}
 
 -- the header's byte comes first
 rest-of : Widths → Sample → List ℕ
@@ -42,7 +32,7 @@ unfolding sampleBytes fieldBytes spread lowBytes rest-of
 header-first w s = refl
 
 -- 1. Reading what the writer wrote, with any words after it, gives the sample and its count back.
-pub read-written : (w : Widths) (s : Sample) (rest : List ℕ) → writable w s ≡ true → readPart w (sampleWords w s ++ rest) ≡ record { sample = s; count = sampleLength w (resource (s .header)); answer = Good }
+pub read-written : (w : Widths) (s : Sample) (rest : List ℕ) → writable w s ≡ true → readPart w (sampleWords w s ++ rest) ≡ foundBy Good s (sampleLength w (resource (s .header)))
 unfolding sampleWords wordsOf
 read-written w s rest fit =
     let n : ℕ = sampleLength w (resource (s .header)) in
@@ -93,16 +83,20 @@ zeros-kind true cs = refl
 zeros-kind false cs = refl
 
 -- what an accepting reader has seen: a good scan, and its whole answer
-module _ (w : Widths) (ws : List ℕ) (taken : isGood (readPart w ws .answer) ≡ true) where
+module _ (w : Widths) (ws : List ℕ) (taken : readPart w ws .number ≡ 0) where
   accepted-scan : isGood (scan (wanted w ws) 0 ws) ≡ true
   unfolding readPart
-  accepted-scan = go (isGood (scan (wanted w ws) 0 ws)) refl taken
+  accepted-scan = go (scan (wanted w ws) 0 ws) taken
     where
-      go : (g : Bool) → isGood (scan (wanted w ws) 0 ws) ≡ g → isGood (cond g (record { sample = sampleOf w (map byteOf ws); count = wanted w ws; answer = Good }) (refusal (scan (wanted w ws) 0 ws)) .answer) ≡ true → isGood (scan (wanted w ws) 0 ws) ≡ true
-      go true e t = e
-      go false e t = t
+      go : (v : Verdict) → foundBy v (sampleOf w (map byteOf ws)) (wanted w ws) .number ≡ 0 → isGood v ≡ true
+      go Good t = refl
+      go Unfinished t = absurd (suc-ne-zero _ t)
+      go TooLarge t = absurd (suc-ne-zero _ t)
+      go Parity t = absurd (suc-ne-zero _ t)
+      go Header t = absurd (suc-ne-zero _ t)
+      go Mark t = absurd (suc-ne-zero _ t)
 
-  accepted : readPart w ws ≡ record { sample = sampleOf w (map byteOf ws); count = wanted w ws; answer = Good }
+  accepted : readPart w ws ≡ foundBy Good (sampleOf w (map byteOf ws)) (wanted w ws)
   accepted = sym (read-good w ws (wanted w ws) (sampleOf w (map byteOf ws)) refl accepted-scan refl)
 
   -- the header read is the first word's byte, so the words wanted are the sample's
@@ -144,11 +138,11 @@ module _ (w : Widths) (ws : List ℕ) (taken : isGood (readPart w ws .answer) �
 
   -- 2. Words that the reader accepts are exactly what writing their sample gives.
   pub accepted-words : take (readPart w ws .count) ws ≡ sampleWords w (readPart w ws .sample)
-  accepted-words = subst (λ (r : Reading). take (r .count) ws ≡ sampleWords w (r .sample)) (sym accepted) given-words
+  accepted-words = subst (λ (r : Found). take (r .count) ws ≡ sampleWords w (r .sample)) (sym accepted) given-words
 
   pub accepted-count : (readPart w ws .count ≡ sampleLength w (resource (readPart w ws .sample .header))) × (readPart w ws .count ≤ length ws)
-  accepted-count = subst (λ (r : Reading). (r .count ≡ sampleLength w (resource (r .sample .header))) × (r .count ≤ length ws)) (sym accepted) (sym size, enough)
+  accepted-count = subst (λ (r : Found). (r .count ≡ sampleLength w (resource (r .sample .header))) × (r .count ≤ length ws)) (sym accepted) (sym size, enough)
 
   -- 3. Every accepted sample is one the writer takes (1 has that every sample the writer takes is accepted).
   pub accepted-writable : writable w (readPart w ws .sample) ≡ true
-  accepted-writable = subst (λ (r : Reading). writable w (r .sample) ≡ true) (sym accepted) given-writable
+  accepted-writable = subst (λ (r : Found). writable w (r .sample) ≡ true) (sym accepted) given-writable

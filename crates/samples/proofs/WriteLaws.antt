@@ -1,17 +1,16 @@
 -- Laws of the writer's tests: widths and zeros are tested number by number. Assumes nothing.
 use Prim.Native.Nat.{ℕ, zero, suc, _^_, _≤_, _<_}
-use native.Mathlib.Nat.{suc-ne-zero, suc-inj, lt-trans}
-use mathlib.Core.Path.{_≡_, refl, sym, ap, ap₂}
+use native.Mathlib.Nat.{not-suc-le-zero, suc-ne-zero, suc-inj, lt-trans}
+use mathlib.Core.Path.{_≡_, refl, sym, ap, ap₂, _∙_}
 use mathlib.Core.Bool.{Bool, true, false, _&&_, _||_, and-false}
 use mathlib.Core.List.{List, [], _∷_, _++_}
-use lib.Dec.{eqb, lit<}
+use lib.Dec.{eqb, ltb, lit<}
 use lib.ListN.{length, getD, drop, replicate}
 use lib.Seq.{drop-cons}
 use borrow.Author.Tests.{lt-ltb, le-ltb, le-leb, lt-leb}
-use Rattle.samples.specs.Layout.{Widths, firstChip, counterWidths, resource, sampleLength, sampleWords}
-use Rattle.samples.specs.Write.{within, allZero, writable, writeAnswer, writeBuffer}
+use Rattle.samples.specs.Layout.{Widths, counterWidths, fieldWidths, firstChip, resource, sampleLength, sampleWords}
+use Rattle.samples.specs.Write.{allZero, row, within, writable, writeAnswer, writeBuffer}
 use Rattle.samples.specs.declared.sample.Sample.{Sample}
-use Rattle.samples.specs.declared.writer.Written.the-variants.{Words, Unfit, Short}
 
 -- what is left from a place on has its first number there
 pub zero-step : (xs : List ℕ) (i : ℕ) → i < length xs → allZero (drop i xs) ≡ eqb (getD xs i 0) 0 && allZero (drop (suc i) xs)
@@ -27,19 +26,26 @@ within-each n (suc k) [] e h = absurd (suc-ne-zero _ (sym e))
 within-each n (suc k) (x ∷ xs) e h =
     ap₂ (λ (a b : Bool). a && b) (lt-ltb x (256 ^ n) (h zero)) (within-each n k xs (suc-inj e) (λ i. h (suc i)))
 
--- one fault is enough for a refusal, and with none left but the counters', they decide
+-- one number above its width is enough, whichever it is
+above : (ns xs : List ℕ) (k : ℕ) → 256 ^ getD ns k 0 ≤ getD xs k 0 → within ns xs ≡ false
+unfolding within
+above [] [] k h = absurd (not-suc-le-zero h)
+above [] (x ∷ xs) k h = refl
+above (n ∷ ns) [] k h = refl
+above (n ∷ ns) (x ∷ xs) zero h = ap (λ (b : Bool). b && within ns xs) (le-ltb x (256 ^ n) h)
+above (n ∷ ns) (x ∷ xs) (suc k) h = ap (λ (b : Bool). ltb x (256 ^ n) && b) (above ns xs k h) ∙ and-false (ltb x (256 ^ n))
+
+pub refuse-field : (w : Widths) (s : Sample) (k : ℕ) → 256 ^ getD (fieldWidths w) k 0 ≤ getD (s .header ∷ s .source ∷ s .stamp ∷ s .user ∷ []) k 0 → writable w s ≡ false
+unfolding writable
+refuse-field w s k h =
+    ap (λ (b : Bool). b && (within counterWidths (s .counters) && (ltb (s .header) 32 && (resource (s .header) || allZero (s .counters)))))
+    (above (fieldWidths w) (s .header ∷ s .source ∷ s .stamp ∷ s .user ∷ []) k h)
+
+-- header bits 5 to 7 are enough too, and with no fault left but the counters', they decide
 module _ (s : Sample) where
   pub refuse-header : 32 ≤ s .header → writable firstChip s ≡ false
   unfolding writable
   refuse-header h = simp (le-ltb (s .header) 32 h, and-false)
-
-  pub refuse-stamp : 256 ^ 5 ≤ s .stamp → writable firstChip s ≡ false
-  unfolding writable within
-  refuse-stamp h = simp (le-ltb (s .stamp) (256 ^ 5) h, and-false)
-
-  pub refuse-user : 256 ^ 6 ≤ s .user → writable firstChip s ≡ false
-  unfolding writable within
-  refuse-user h = simp (le-ltb (s .user) (256 ^ 6) h, and-false)
 
   pub counters-decide : s .header < 32 → s .source < 256 ^ 4 → s .stamp < 256 ^ 5 → s .user < 256 ^ 6 → within counterWidths (s .counters) ≡ true → writable firstChip s ≡ resource (s .header) || allZero (s .counters)
   unfolding writable within
@@ -48,14 +54,14 @@ module _ (s : Sample) where
 
 -- the writer's answer and buffer, case by case
 module _ (w : Widths) (s : Sample) (out : List ℕ) (n : ℕ) (size : n ≡ sampleLength w (resource (s .header))) where
-  pub wrote : writable w s ≡ true → n ≤ length out → (Words n ≡ writeAnswer w s (length out)) × (sampleWords w s ++ drop n out ≡ writeBuffer w s out)
+  pub wrote : writable w s ≡ true → n ≤ length out → (row 0 n ≡ writeAnswer w s (length out)) × (sampleWords w s ++ drop n out ≡ writeBuffer w s out)
   unfolding writeAnswer writeBuffer
   wrote fit room = rw (fit, ← size, le-leb n (length out) room) (refl, refl)
 
-  pub wrote-short : writable w s ≡ true → length out < n → (Short ≡ writeAnswer w s (length out)) × (out ≡ writeBuffer w s out)
+  pub wrote-short : writable w s ≡ true → length out < n → (row 18 0 ≡ writeAnswer w s (length out)) × (out ≡ writeBuffer w s out)
   unfolding writeAnswer writeBuffer
   wrote-short fit room = rw (fit, ← size, lt-leb n (length out) room) (refl, refl)
 
-pub wrote-unfit : (w : Widths) (s : Sample) (out : List ℕ) → writable w s ≡ false → (Unfit ≡ writeAnswer w s (length out)) × (out ≡ writeBuffer w s out)
+pub wrote-unfit : (w : Widths) (s : Sample) (out : List ℕ) → writable w s ≡ false → (row 17 0 ≡ writeAnswer w s (length out)) × (out ≡ writeBuffer w s out)
 unfolding writeAnswer writeBuffer
 wrote-unfit w s out fault = rw fault (refl, refl)

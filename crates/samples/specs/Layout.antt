@@ -50,6 +50,10 @@ sampleBytes w s =
 unfoldable pub sampleWords : Widths → Sample → List ℕ
 sampleWords w s = wordsOf (sampleBytes w s)
 
+-- the sample whose every part is zero
+abbrev pub zeroSample : Sample
+zeroSample = record { user = 0; stamp = 0; source = 0; header = 0; counters = replicate 16 0 }
+
 -- how many bytes fields of these widths take
 abbrev pub total : List ℕ → ℕ
 total [] = 0

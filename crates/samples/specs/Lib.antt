@@ -1,3 +1,4 @@
 pub mod Layout
+pub mod Places
 pub mod Read
 pub mod Write

@@ -6,22 +6,22 @@ use lib.Dec.{leb, eqb}
 use lib.ListN.{take, drop, getD, replicate}
 use Rattle.words.specs.Bytes.{number}
 use Rattle.words.specs.Word.{tooLarge, oddOnes, marked, byteOf}
-use Rattle.samples.specs.Layout.{Widths, fieldWidths, counterWidths, resource, total, sampleLength}
+use Rattle.samples.specs.Layout.{Widths, fieldWidths, counterWidths, resource, total, sampleLength, zeroSample}
 use Rattle.samples.specs.declared.sample.Sample.{Sample}
 use Rattle.samples.specs.declared.reader.Reading.{Reading}
-use Rattle.samples.specs.declared.reader.Answer.{Answer}
-use Rattle.samples.specs.declared.reader.Answer.the-variants.{Good, Unfinished, TooLarge, Parity, Header, Mark}
+use Rattle.samples.specs.declared.reader.Verdict.{Verdict}
+use Rattle.samples.specs.declared.reader.Verdict.the-variants.{Good, Unfinished, TooLarge, Parity, Header, Mark}
 
 -- "21 a word above 1023; 22 parity; 23 header bits 5..7; 24 end mark early or missing", in that order, of the word at a
 -- place of a sample of n words
-unfoldable pub faultAt : ℕ → ℕ → ℕ → Answer
+unfoldable pub faultAt : ℕ → ℕ → ℕ → Verdict
 faultAt n place w =
     cond (tooLarge w) TooLarge
     (cond (not (oddOnes w)) Parity
     (cond (eqb place 0 && leb 32 (byteOf w)) Header
     (cond (eqb (suc place) n) (cond (marked w) Good Mark) (cond (marked w) Mark Good))))
 
-abbrev pub isGood : Answer → Bool
+abbrev pub isGood : Verdict → Bool
 isGood Good = true
 isGood Unfinished = false
 isGood TooLarge = false
@@ -30,11 +30,11 @@ isGood Header = false
 isGood Mark = false
 
 -- a fault decides, and a good word leaves it to what comes after
-abbrev pub orElse : Answer → Answer → Answer
+abbrev pub orElse : Verdict → Verdict → Verdict
 orElse a b = cond (isGood a) b a
 
 -- "The first bad word decides"; "20 the words so far are good but unfinished": the words from a place on, n wanted in all
-unfoldable pub scan : ℕ → ℕ → List ℕ → Answer
+unfoldable pub scan : ℕ → ℕ → List ℕ → Verdict
 scan n place [] = Unfinished
 scan n place (w ∷ ws) = orElse (faultAt n place w) (cond (eqb (suc place) n) Good (scan n (suc place) ws))
 
@@ -55,30 +55,41 @@ sampleOf w bs =
       counters = cond (resource (getD f 0 0)) (gather counterWidths (drop (total (fieldWidths w)) bs)) (replicate 16 0);
     }
 
-abbrev pub zeroSample : Sample
-zeroSample = record { user = 0; stamp = 0; source = 0; header = 0; counters = replicate 16 0 }
+-- a reading by document 01: "the first sample and how many words it took, or" a number
+pub record Found : Type 0 where
+  pub sample : Sample
+  pub count : ℕ
+  pub number : ℕ
 
 -- "With 20 to 24 the reader's sample is all zeros and its word count 0"
-abbrev pub refusal : Answer → Reading
-refusal a = record { sample = zeroSample; count = 0; answer = a }
+abbrev pub nothing : ℕ → Found
+nothing number = record { sample = zeroSample; count = 0; number = number }
 
--- a sample where the words are good, else that refusal
-abbrev pub readAnswer : Answer → ℕ → Sample → Reading
-readAnswer a n s = cond (isGood a) (record { sample = s; count = n; answer = Good }) (refusal a)
+-- each case's: "or: 20 the words so far are good but unfinished ..; 21 a word above 1023; 22 parity; 23 header bits 5..7; 24 end mark early
+-- or missing". The number of a sample, which document 01 leaves open, is 0
+abbrev pub foundBy : Verdict → Sample → ℕ → Found
+foundBy Good s n = record { sample = s; count = n; number = 0 }
+foundBy Unfinished s n = nothing 20
+foundBy TooLarge s n = nothing 21
+foundBy Parity s n = nothing 22
+foundBy Header s n = nothing 23
+foundBy Mark s n = nothing 24
+
+abbrev pub verdictNumber : Verdict → ℕ
+verdictNumber v = foundBy v zeroSample 0 .number
+
+-- what the reader hands back, told so
+abbrev pub found : Reading → Found
+found r = record { sample = r .sample; count = r .count; number = verdictNumber (r .verdict) }
+
+-- a refusal as the reader hands it back
+abbrev pub refusal : Verdict → Reading
+refusal v = record { sample = zeroSample; count = 0; verdict = v }
 
 -- how many words the sample at the start of a part has: its first word holds the header
 abbrev pub wanted : Widths → List ℕ → ℕ
 wanted w ws = sampleLength w (resource (byteOf (getD ws 0 0)))
 
 -- "the first sample and how many words it took"
-unfoldable pub readPart : Widths → List ℕ → Reading
-readPart w ws = readAnswer (scan (wanted w ws) 0 ws) (wanted w ws) (sampleOf w (map byteOf ws))
-
--- document 01's number for each refusal; 0, which it leaves open, for a sample
-abbrev pub answerNumber : Answer → ℕ
-answerNumber Good = 0
-answerNumber Unfinished = 20
-answerNumber TooLarge = 21
-answerNumber Parity = 22
-answerNumber Header = 23
-answerNumber Mark = 24
+unfoldable pub readPart : Widths → List ℕ → Found
+readPart w ws = foundBy (scan (wanted w ws) 0 ws) (sampleOf w (map byteOf ws)) (wanted w ws)

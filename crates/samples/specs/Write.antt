@@ -26,25 +26,29 @@ writable w s =
     within (fieldWidths w) (s .header ∷ s .source ∷ s .stamp ∷ s .user ∷ [])
     && (within counterWidths (s .counters) && (ltb (s .header) 32 && (resource (s .header) || allZero (s .counters))))
 
+-- an answer by document 01: its number, and how many words were written
+pub record Row : Type 0 where
+  pub number : ℕ
+  pub count : ℕ
+
+abbrev pub row : ℕ → ℕ → Row
+row number count = record { number = number; count = count }
+
+-- each case's: "returns how many"; "refuses, with 0 .., exactly for: 17 ..; then 18". The number of a written sample, which document 01
+-- leaves open, is 0
+abbrev pub writtenRow : Written → Row
+writtenRow (Words n) = row 0 n
+writtenRow Unfit = row 17 0
+writtenRow Short = row 18 0
+
 -- 17 before 18, else how many words
-unfoldable pub writeAnswer : Widths → Sample → ℕ → Written
+unfoldable pub writeAnswer : Widths → Sample → ℕ → Row
 writeAnswer w s room =
     let n = sampleLength w (resource (s .header)) in
-    cond (writable w s) (cond (leb n room) (Words n) Short) Unfit
+    cond (writable w s) (cond (leb n room) (row 0 n) (row 18 0)) (row 17 0)
 
 -- "the rest untouched"; a refusal writes nothing
 unfoldable pub writeBuffer : Widths → Sample → List ℕ → List ℕ
 writeBuffer w s out =
     let n = sampleLength w (resource (s .header)) in
     cond (writable w s) (cond (leb n (length out)) (sampleWords w s ++ drop n out) out) out
-
--- document 01's number for each refusal, 0, which it leaves open, for a written sample; and the count
-abbrev pub writtenNumber : Written → ℕ
-writtenNumber (Words n) = 0
-writtenNumber Unfit = 17
-writtenNumber Short = 18
-
-abbrev pub writtenCount : Written → ℕ
-writtenCount (Words n) = n
-writtenCount Unfit = 0
-writtenCount Short = 0

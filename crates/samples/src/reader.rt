@@ -15,10 +15,10 @@ ghost use lib.ListN.{length, take, drop};
 ghost use Rattle.words.specs.Bytes.{number};
 ghost use Rattle.words.specs.Word.{byteOf};
 ghost use Rattle.samples.specs.Layout.{firstChip, counterWidths};
-ghost use Rattle.samples.specs.Read.{answerNumber, faultAt, gather, isGood, readPart, refusal, sampleOf, scan, wanted};
+ghost use Rattle.samples.specs.Read.{faultAt, found, gather, isGood, readPart, refusal, sampleOf, scan, verdictNumber, wanted};
 
 // What a reader finds of a word, or of the words of a part.
-pub enum Answer {
+pub enum Verdict {
     Good,
     Unfinished,
     TooLarge,
@@ -27,102 +27,96 @@ pub enum Answer {
     Mark,
 }
 
-// The first sample and how many words it took; zeros beside any answer but Good.
+// The first sample and how many words it took; zeros beside any verdict but Good.
 pub struct Reading {
     pub sample: Sample,
     pub count: usize,
-    pub answer: Answer,
+    pub verdict: Verdict,
 }
 
 // Reads the first sample of a part; what comes after it is not looked at.
 pub fn read(part: &[u16]) -> Reading
-    ensures { λ r. ⌜ r ≡ readPart firstChip (now (part .entry)) ⌝ }
+    ensures { λ r. ⌜ found r ≡ readPart firstChip (now (part .entry)) ⌝ }
 {
     if part.len() == 0 {
-        return refused(Answer::Unfinished);
+        return refused(Verdict::Unfinished);
     }
     let count = word_count(byte(part[0]) as u32);
-    let found = scan(part, count);
-    if is_good(found) {
+    let verdict = scan(part, count);
+    if is_good(verdict) {
         let sample = decode(part);
         return Reading {
             sample,
             count,
-            answer: Answer::Good,
+            verdict: Verdict::Good,
         };
     }
-    refused(found)
+    refused(verdict)
 }
 
-fn is_good(answer: Answer) -> bool
-    ensures { λ r. ⌜ r ≡ isGood answer ⌝ }
+fn is_good(verdict: Verdict) -> bool
+    ensures { λ r. ⌜ r ≡ isGood verdict ⌝ }
 {
-    match answer {
-        Answer::Good => true,
-        Answer::Unfinished => false,
-        Answer::TooLarge => false,
-        Answer::Parity => false,
-        Answer::Header => false,
-        Answer::Mark => false,
+    match verdict {
+        Verdict::Good => true,
+        Verdict::Unfinished => false,
+        Verdict::TooLarge => false,
+        Verdict::Parity => false,
+        Verdict::Header => false,
+        Verdict::Mark => false,
     }
 }
 
 // Nothing read, and why.
-fn refused(answer: Answer) -> Reading
-    ensures { λ r. ⌜ r ≡ refusal answer ⌝ }
+fn refused(verdict: Verdict) -> Reading
+    ensures { λ r. ⌜ r ≡ refusal verdict ⌝ }
 {
     Reading {
-        sample: Sample {
-            user: 0,
-            stamp: 0,
-            source: 0,
-            header: 0,
-            counters: [0; 16],
-        },
+        sample: Sample::zero(),
         count: 0,
-        answer,
+        verdict,
     }
 }
 
 // The first bad word of a sample of `count` words decides.
-fn scan(part: &[u16], count: usize) -> Answer
+fn scan(part: &[u16], count: usize) -> Verdict
     requires { ⌜ 0 < count ⌝ }
     ensures { λ r. ⌜ r ≡ scan count 0 (now (part .entry)) ⌝ }
 {
     let mut i = 0;
     while i < part.len() {
-        let found = fault_at(count, i, part[i]);
-        if !is_good(found) {
-            return found;
+        let fault = fault_at(count, i, part[i]);
+        if !is_good(fault) {
+            return fault;
         }
         i += 1;
         if i == count {
-            return Answer::Good;
+            return Verdict::Good;
         }
     }
-    Answer::Unfinished
+    Verdict::Unfinished
 }
 
 // What is wrong with the word at a place of a sample of `count` words.
-fn fault_at(count: usize, place: usize, word: u16) -> Answer
+fn fault_at(count: usize, place: usize, word: u16) -> Verdict
     requires { ⌜ place < count ⌝ }
     ensures { λ r. ⌜ r ≡ faultAt count place word ⌝ }
 {
     if too_large(word) {
-        return Answer::TooLarge;
+        return Verdict::TooLarge;
     }
     if !odd_ones(word) {
-        return Answer::Parity;
+        return Verdict::Parity;
     }
     if bad_header(place, word) {
-        return Answer::Header;
+        return Verdict::Header;
     }
     let last = place + 1 == count;
     let mark = marked(word);
     if last {
-        if mark { Answer::Good } else { Answer::Mark }
+        if mark { Verdict::Good } else { Verdict::Mark }
     } else {
-        if mark { Answer::Mark } else { Answer::Good }
+        if mark { Verdict::Mark } else { Verdict::Good }
     }
 }
 
@@ -188,16 +182,16 @@ fn number_at(part: &[u16], start: usize, size: usize) -> u64
     sum
 }
 
-// The number of an answer: document 01's 20 to 24, and 0 for a sample.
-pub fn answer_number(answer: Answer) -> u64
-    ensures { λ r. ⌜ r ≡ answerNumber answer ⌝ }
+// The number of a verdict: document 01's 20 to 24, and 0 for a sample.
+pub fn verdict_number(verdict: Verdict) -> u64
+    ensures { λ r. ⌜ r ≡ verdictNumber verdict ⌝ }
 {
-    match answer {
-        Answer::Good => 0,
-        Answer::Unfinished => 20,
-        Answer::TooLarge => 21,
-        Answer::Parity => 22,
-        Answer::Header => 23,
-        Answer::Mark => 24,
+    match verdict {
+        Verdict::Good => 0,
+        Verdict::Unfinished => 20,
+        Verdict::TooLarge => 21,
+        Verdict::Parity => 22,
+        Verdict::Header => 23,
+        Verdict::Mark => 24,
     }
 }

@@ -2,7 +2,7 @@
 use words::byte::byte_at;
 ghost use mathlib.Core.Path.{_≡_};
 ghost use lib.ListN.{getD};
-ghost use Rattle.samples.specs.Layout.{firstChip, resource, fieldBytes, counterBytes, sampleBytes, sampleLength};
+ghost use Rattle.samples.specs.Layout.{firstChip, resource, fieldBytes, counterBytes, sampleBytes, sampleLength, zeroSample};
 
 // Wide fields first, and the header as wide as the source address: no padding (88 bytes).
 pub struct Sample {
@@ -11,6 +11,21 @@ pub struct Sample {
     pub source: u32,
     pub header: u32,
     pub counters: [u32; 16],
+}
+
+impl Sample {
+    // Every part zero.
+    pub fn zero() -> Sample
+        ensures { λ r. ⌜ r ≡ zeroSample ⌝ }
+    {
+        Sample {
+            user: 0,
+            stamp: 0,
+            source: 0,
+            header: 0,
+            counters: [0; 16],
+        }
+    }
 }
 
 // Whether the header is a Resource sample's: bit 3.

@@ -9,7 +9,12 @@ ghost use mathlib.Core.List.{_++_};
 ghost use Prim.Native.Nat.{_≤_};
 ghost use lib.ListN.{length, drop};
 ghost use Rattle.samples.specs.Layout.{firstChip, resource, sampleLength, sampleWords};
-ghost use Rattle.samples.specs.Write.{allZero, writable, writeAnswer, writeBuffer, writtenCount, writtenNumber};
+ghost use Rattle.samples.specs.Write.{allZero, writable, writeAnswer, writeBuffer, writtenRow};
+
+// The first number above the widths of Timestamp and user data.
+const TWO_40: u64 = 1 << 40;
+
+const TWO_48: u64 = 1 << 48;
 
 // What writing a sample answers.
 pub enum Written {
@@ -23,7 +28,7 @@ pub enum Written {
 
 // Puts a sample's 16 or 80 words at the buffer's start and leaves the rest; a refusal leaves it all.
 pub fn write(sample: Sample, out: &mut [u16]) -> Written
-    ensures { λ r. ⌜ r ≡ writeAnswer firstChip sample (length (now (out .entry))) ⌝ }
+    ensures { λ r. ⌜ writtenRow r ≡ writeAnswer firstChip sample (length (now (out .entry))) ⌝ }
     ensures { λ r. ⌜ now (out .exit) ≡ writeBuffer firstChip sample (now (out .entry)) ⌝ }
 {
     if can_write(sample) {
@@ -44,10 +49,10 @@ pub fn can_write(sample: Sample) -> bool
     if 32 <= sample.header {
         return false;
     }
-    if 1099511627776 <= sample.stamp {
+    if TWO_40 <= sample.stamp {
         return false;
     }
-    if 281474976710656 <= sample.user {
+    if TWO_48 <= sample.user {
         return false;
     }
     if is_resource(sample.header) {
@@ -85,7 +90,7 @@ fn fill(sample: Sample, count: usize, out: &mut [u16])
 
 // The number of an answer: document 01's 17 and 18, and 0 for a written sample.
 pub fn written_number(answer: Written) -> u64
-    ensures { λ r. ⌜ r ≡ writtenNumber answer ⌝ }
+    ensures { λ r. ⌜ r ≡ writtenRow answer .number ⌝ }
 {
     match answer {
         Written::Words(_) => 0,
@@ -96,7 +101,7 @@ pub fn written_number(answer: Written) -> u64
 
 // How many words an answer says were written; none with a refusal.
 pub fn written_count(answer: Written) -> usize
-    ensures { λ r. ⌜ r ≡ writtenCount answer ⌝ }
+    ensures { λ r. ⌜ r ≡ writtenRow answer .count ⌝ }
 {
     match answer {
         Written::Words(count) => count,

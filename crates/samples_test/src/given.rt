@@ -4,6 +4,13 @@ use samples::sample::Sample;
 // The mark that a buffer is filled with before it is lent.
 pub const MARK: u16 = 43690;
 
+// The largest number of 32 bits, and the first above 40 and 48 bits.
+pub const MAX_32: u32 = 4294967295;
+
+pub const TWO_40: u64 = 1 << 40;
+
+pub const TWO_48: u64 = 1 << 48;
+
 // A Trace sample, or by header bit 3 a Resource sample whose counters are zero.
 pub fn sample(header: u32, source: u32, stamp: u64, user: u64) -> Sample {
     Sample {
@@ -22,7 +29,7 @@ pub fn listing_b() -> Sample {
 
 // The fields at their largest.
 pub fn largest(header: u32) -> Sample {
-    sample(header, 4294967295, 1099511627775, 281474976710655)
+    sample(header, MAX_32, TWO_40 - 1, TWO_48 - 1)
 }
 
 pub fn with_counter(sample: Sample, place: usize, value: u32) -> Sample {

@@ -2,7 +2,7 @@
 use libc::STDOUT_FILENO;
 use printing::print;
 use samples::reader::Reading;
-use samples::reader::answer_number;
+use samples::reader::verdict_number;
 use samples::sample::Sample;
 use samples::writer::Written;
 use samples::writer::written_count;
@@ -50,10 +50,10 @@ pub fn written(name: &[u8], written: Written, buffer: &[u16]) {
 
 // What the reader answered, its sample with it.
 pub fn reading(name: &[u8], found: Reading) {
-    let result = found.answer;
+    let verdict = found.verdict;
     let sample = found.sample;
     print::text(b"read ");
-    answer(name, answer_number(result), found.count);
+    answer(name, verdict_number(verdict), found.count);
     print::text(b", ");
     fields(sample);
     print::text(b"\n");

@@ -41,7 +41,7 @@ pub fn accepted() {
     there_and_back(b"M11", given::listing_b());
     there_and_back(b"all zeros", given::sample(0, 0, 0, 0));
     there_and_back(b"largest Trace", given::largest(23));
-    let largest = given::with_counters(given::largest(31), [4294967295; 16]);
+    let largest = given::with_counters(given::largest(31), [given::MAX_32; 16]);
     there_and_back(b"largest Resource", largest);
     let counted = given::with_counters(
         given::sample(10, 1, 2, 3),
@@ -56,8 +56,8 @@ pub fn unfit_fields() {
     written(b"header 128", given::sample(128, 5, 3, 258), 100);
     written(b"header 256", given::sample(256, 5, 3, 258), 100);
     written(b"header 40", given::sample(40, 5, 3, 258), 100);
-    written(b"stamp 2^40", given::sample(0, 5, 1099511627776, 258), 100);
-    written(b"user 2^48", given::sample(0, 5, 3, 281474976710656), 100);
+    written(b"stamp 2^40", given::sample(0, 5, given::TWO_40, 258), 100);
+    written(b"user 2^48", given::sample(0, 5, 3, given::TWO_48), 100);
 }
 
 pub fn unfit_counters() {
@@ -81,12 +81,12 @@ pub fn unfit_and_short() {
     written(b"header 32, no room", given::sample(32, 5, 3, 258), 0);
     written(
         b"stamp 2^40, room 15",
-        given::sample(0, 5, 1099511627776, 258),
+        given::sample(0, 5, given::TWO_40, 258),
         15,
     );
     written(
         b"Resource, user 2^48, room 79",
-        given::sample(8, 5, 3, 281474976710656),
+        given::sample(8, 5, 3, given::TWO_48),
         79,
     );
     let counter = given::with_counter(given::listing_b(), 15, 1);

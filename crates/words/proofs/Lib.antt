@@ -1,4 +1,5 @@
 -- The laws that belong to no one function.
 pub mod ByteLaws
 pub mod FillLaws
+pub mod ReplaceLaws
 pub mod WordLaws

@@ -1,5 +1,5 @@
 -- Laws of words: a word is its byte, its parity bit and its end mark, and the three are read back from it. Assumes nothing.
-use Prim.Native.Nat.{ℕ, zero, suc, _+_, _/_, _%_, _^_, _<_}
+use Prim.Native.Nat.{ℕ, zero, suc, _+_, _*_, _/_, _%_, _^_, _<_}
 use native.Mathlib.Nat.{mod-lt, zero-lt-suc, div-one, div-div-eq-div-mul, pow-succ', add-assoc, le-of-suc-le-suc, not-suc-le-zero}
 use native.Mathlib.Omega.{arith}
 use native.Mathlib.Numerals.{add-one}
@@ -31,13 +31,13 @@ ones-top (suc k) n =
     ∙ sym (add-assoc (n % 2) (onesIn k (n / 2)) (n / 2 ^ suc k % 2))
 
 -- the count of k digits looks at no other
-ones-mod : (k n : ℕ) → onesIn k (n % 2 ^ k) ≡ onesIn k n
+pub ones-low : (k n : ℕ) → onesIn k (n % 2 ^ k) ≡ onesIn k n
 unfolding onesIn
-ones-mod zero n = refl
-ones-mod (suc k) n =
+ones-low zero n = refl
+ones-low (suc k) n =
     let low : n % 2 ^ suc k % 2 ≡ n % 2 = subst (λ (e : ℕ). n % 2 ^ e % 2 ≡ n % 2) (add-one k) (mod-mod-pow n k 1) in
     let rest : n % 2 ^ suc k / 2 ≡ n / 2 % 2 ^ k = subst (λ (e : ℕ). n % 2 ^ e / 2 ≡ n / 2 % 2 ^ k) (add-one k) (field n k 1) in
-    ap₂ (λ (a r : ℕ). a + r) low (ap (onesIn k) rest ∙ ones-mod k (n / 2))
+    ap₂ (λ (a r : ℕ). a + r) low (ap (onesIn k) rest ∙ ones-low k (n / 2))
 
 pub parity-bit : (b : ℕ) → parityOf b < 2
 unfolding parityOf
@@ -71,8 +71,20 @@ pub odd-parity : (w : ℕ) → oddOnes w ≡ eqb (w / 256 % 2) (parityOf (byteOf
 unfolding oddOnes parityOf
 odd-parity w =
     let top : onesIn 9 w ≡ onesIn 8 w + w / 256 % 2 = ones-top 8 w in
-    let low : onesIn 8 (w % 256) ≡ onesIn 8 w = ones-mod 8 w in
+    let low : onesIn 8 (w % 256) ≡ onesIn 8 w = ones-low 8 w in
     eqb-same (onesIn 9 w % 2) 1 (w / 256 % 2) ((onesIn 8 (w % 256) + 1) % 2) (λ q. omega arith) (λ q. omega arith)
+
+-- no word is 0: the byte 0 has the parity bit 1
+zero-parity : parityOf 0 ≡ 1
+unfolding parityOf onesIn
+zero-parity = refl
+
+pub word-some : (last : Bool) (b : ℕ) → wordOf last b ≡ 0 → ⊥
+unfolding wordOf
+word-some last b e =
+    let none : b ≡ 0 = omega arith in
+    let odd : parityOf b ≡ 1 = ap parityOf none ∙ zero-parity in
+    omega arith
 
 -- what a reader finds in the word of a byte
 module _ (last : Bool) (b : ℕ) (h : b < 256) where
@@ -91,10 +103,14 @@ module _ (last : Bool) (b : ℕ) (h : b < 256) where
       let bit : wordOf last b / 256 % 2 ≡ parityOf b = omega (arith, parity-bit b, mark-bit last) in
       odd-parity (wordOf last b) ∙ eq-eqb _ _ (bit ∙ sym same)
 
-  pub word-marked : marked (wordOf last b) ≡ last
+  -- bit 9 is the end mark, and nothing stands above it
+  pub word-top : wordOf last b / 512 ≡ markBit last
   unfolding wordOf
+  word-top = omega (arith, parity-bit b, mark-bit last)
+
+  pub word-marked : marked (wordOf last b) ≡ last
   word-marked =
-      let bit : wordOf last b / 512 % 2 ≡ markBit last = omega (arith, parity-bit b, mark-bit last) in
+      let bit : wordOf last b / 512 % 2 ≡ markBit last = omega (arith, word-top, mark-bit last) in
       ap (λ (m : ℕ). eqb m 1) bit ∙ mark-read last
 
 -- a word that passes is the word of its byte
@@ -104,6 +120,23 @@ word-back w small odd =
     let bit : w / 256 % 2 ≡ parityOf (byteOf w) = eqb-true _ _ (sym (odd-parity w) ∙ odd) in
     let mark : markBit (marked w) ≡ w / 512 % 2 = mark-bit-of (w / 512 % 2) (mod-lt _ (zero-lt-suc 1)) in
     omega (arith, ltb-false 1023 w small)
+
+-- byte, mark and what stands above it, and whether the ones of bits 0 to 8 are odd, leave one word
+pub word-one : (v w : ℕ) → v % 256 ≡ w % 256 → onesIn 9 v % 2 ≡ onesIn 9 w % 2 → v / 512 ≡ w / 512 → v ≡ w
+word-one v w low odd top =
+    let same : onesIn 8 v ≡ onesIn 8 w = sym (ones-low 8 v) ∙ ap (onesIn 8) low ∙ ones-low 8 w in
+    let sums : (onesIn 8 v + v / 256 % 2) % 2 ≡ (onesIn 8 v + w / 256 % 2) % 2 =
+    ap (λ (n : ℕ). n % 2) (sym (ones-top 8 v)) ∙ odd ∙ ap (λ (n : ℕ). n % 2) (ones-top 8 w) ∙ ap (λ (n : ℕ). (n + w / 256 % 2) % 2) (sym same) in
+    whole (bit (onesIn 8 v) (v / 256 % 2) (w / 256 % 2) (mod-lt _ (zero-lt-suc 1)) (mod-lt _ (zero-lt-suc 1)) sums)
+  where
+    bit : (n a b : ℕ) → a < 2 → b < 2 → (n + a) % 2 ≡ (n + b) % 2 → a ≡ b
+    bit n a b h k e = omega arith
+
+    digits : (n : ℕ) → n ≡ n % 256 + 256 * (n / 256 % 2) + 512 * (n / 512)
+    digits n = omega arith
+
+    whole : v / 256 % 2 ≡ w / 256 % 2 → v ≡ w
+    whole e = digits v ∙ (λ i. low i + 256 * e i + 512 * top i) ∙ sym (digits w)
 
 -- as many words as bytes
 pub words-length : (bs : List ℕ) → length (wordsOf bs) ≡ length bs

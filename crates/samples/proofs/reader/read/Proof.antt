@@ -7,7 +7,7 @@ use mathlib.Core.Path.{_≡_, sym, ap, _∙_, subst}
 use mathlib.Core.Bool.{true}
 use lib.ListN.{length}
 use Rattle.samples.specs.Layout.{firstChip, resource, sampleLength}
-use Rattle.samples.specs.Read.{isGood, refusal, scan, wanted}
+use Rattle.samples.specs.Read.{found, isGood, refusal, scan, wanted}
 use Rattle.samples.proofs.ReadLaws.{read-good, read-bad, read-empty, scan-enough}
 use Rattle.samples.proofs.reader.read.Statement.{statement}
 use Rattle.samples.proofs.reader.read.Tie as tie
@@ -16,7 +16,7 @@ refused-requires : tie.Need-refused-requires
 refused-requires c κs = search needs
 
 returns : tie.Need-returns
-returns c = c .refused .ensures ∙ read-empty firstChip (c .before .before .before .args .part .now) (c .before .if1 .taken)
+returns c = ap found (c .refused .ensures) ∙ read-empty firstChip (c .before .before .before .args .part .now) (c .before .if1 .taken)
 
 shared-slice-read-byte : tie.Need-shared-slice-read-byte
 shared-slice-read-byte c = search needs
@@ -62,7 +62,7 @@ returns-3 c =
     let s = c .before .before .before in
     let d = s .before in
     let ws = d .before .before .before .before .before .args .part .now in
-    c .refused2 .ensures ∙ ap refusal (s .scan .ensures)
+    ap found (c .refused2 .ensures ∙ ap refusal (s .scan .ensures))
     ∙ read-bad firstChip ws (d .word-count .result) (size d) (ap isGood (sym (s .scan .ensures)) ∙ sym (c .before .before .is-good .ensures) ∙ c .before .if2 .left)
 
 pub read-spec : {M : Type 1} → statement M

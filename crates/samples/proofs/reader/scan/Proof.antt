@@ -11,7 +11,7 @@ use lib.ListN.{length, getD, drop, drop-of-length-le}
 use lib.Seq.{drop-cons}
 use borrow.Author.Tests.{eq-eqb, ne-eqb, not-true, not-false}
 use Rattle.samples.specs.Read.{isGood, scan}
-use Rattle.samples.specs.declared.reader.Answer.the-variants.{Good}
+use Rattle.samples.specs.declared.reader.Verdict.the-variants.{Good}
 use Rattle.samples.proofs.ReadLaws.{scan-word}
 use Rattle.samples.proofs.reader.scan.Statement.{statement}
 use Rattle.samples.proofs.reader.scan.Tie as tie

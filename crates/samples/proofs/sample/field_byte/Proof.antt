@@ -1,7 +1,9 @@
 -- `samples::sample::field_byte` meets its contract: the tests find the field that the place falls into. Assumes nothing.
 use borrow.Author.Needs.{needs}
+use Prim.Native.Nat.{_-_}
 use mathlib.Core.Path.{sym, _∙_}
-use Rattle.samples.proofs.SampleLaws.{at-header, at-source, at-stamp, at-user, at-none}
+use Rattle.samples.specs.Layout.{firstChip}
+use Rattle.samples.proofs.SampleLaws.{at-field, at-none}
 use Rattle.samples.proofs.sample.field_byte.Statement.{statement}
 use Rattle.samples.proofs.sample.field_byte.Tie as tie
 
@@ -11,7 +13,7 @@ byte-at-requires c κs = search needs
 returns : tie.Need-returns
 returns c =
     let a = c .before .before .args in
-    c .byte-at .ensures ∙ sym (at-header (a .header) (a .source) (a .stamp) (a .user) (a .place) (search needs))
+    c .byte-at .ensures ∙ sym (at-field firstChip (a .header) (a .source) (a .stamp) (a .user) 0 (a .place) (a .place) (search needs) (search needs))
 
 byte-at-requires-2 : tie.Need-byte-at-requires-2
 byte-at-requires-2 c κs = search needs
@@ -20,7 +22,7 @@ returns-2 : tie.Need-returns-2
 returns-2 c =
     let a = c .before .before .before .args in
     c .byte-at2 .ensures
-    ∙ sym (at-source (a .header) (a .source) (a .stamp) (a .user) (a .place) (search needs) (search needs))
+    ∙ sym (at-field firstChip (a .header) (a .source) (a .stamp) (a .user) 1 (a .place) (a .place - 1) (search needs) (search needs))
 
 byte-at-requires-3 : tie.Need-byte-at-requires-3
 byte-at-requires-3 c κs = search needs
@@ -29,7 +31,7 @@ returns-3 : tie.Need-returns-3
 returns-3 c =
     let a = c .before .before .before .before .args in
     c .byte-at3 .ensures
-    ∙ sym (at-stamp (a .header) (a .source) (a .stamp) (a .user) (a .place) (search needs) (search needs))
+    ∙ sym (at-field firstChip (a .header) (a .source) (a .stamp) (a .user) 2 (a .place) (a .place - 5) (search needs) (search needs))
 
 byte-at-requires-4 : tie.Need-byte-at-requires-4
 byte-at-requires-4 c κs = search needs
@@ -38,7 +40,7 @@ returns-4 : tie.Need-returns-4
 returns-4 c =
     let a = c .before .before .before .before .before .args in
     c .byte-at4 .ensures
-    ∙ sym (at-user (a .header) (a .source) (a .stamp) (a .user) (a .place) (search needs) (search needs))
+    ∙ sym (at-field firstChip (a .header) (a .source) (a .stamp) (a .user) 3 (a .place) (a .place - 10) (search needs) (search needs))
 
 returns-5 : tie.Need-returns-5
 returns-5 c =

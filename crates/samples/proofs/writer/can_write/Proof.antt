@@ -7,9 +7,9 @@ use mathlib.Core.Bool.{Bool, true, _||_}
 use lib.ListN.{getD}
 use mir.Syntax.{w32}
 use mir.Val.{Fits}
-use Rattle.samples.specs.Layout.{counterWidths}
+use Rattle.samples.specs.Layout.{counterWidths, firstChip}
 use Rattle.samples.specs.Write.{allZero, within}
-use Rattle.samples.proofs.WriteLaws.{refuse-header, refuse-stamp, refuse-user, counters-decide, within-each}
+use Rattle.samples.proofs.WriteLaws.{counters-decide, refuse-field, refuse-header, within-each}
 use Rattle.samples.proofs.writer.can_write.Statement.{statement}
 use Rattle.samples.proofs.writer.can_write.Tie as tie
 
@@ -17,10 +17,10 @@ returns : tie.Need-returns
 returns c = sym (refuse-header (c .before .before .args .sample) (search needs))
 
 returns-2 : tie.Need-returns-2
-returns-2 c = sym (refuse-stamp (c .before .before .before .before .args .sample) (search needs))
+returns-2 c = sym (refuse-field firstChip (c .before .before .before .before .args .sample) 2 (search needs))
 
 returns-3 : tie.Need-returns-3
-returns-3 c = sym (refuse-user (c .before .before .before .before .before .before .args .sample) (search needs))
+returns-3 c = sym (refuse-field firstChip (c .before .before .before .before .before .before .args .sample) 3 (search needs))
 
 is-resource-requires : tie.Need-is-resource-requires
 is-resource-requires c κs = search needs

@@ -1,15 +1,32 @@
--- `chip::chip::Chip::fresh_at` meets its contract: the Timestamp, zeros, and an empty queue. Assumes nothing.
+-- `chip::chip::Chip::fresh_at` meets its contract: the Timestamp, and each other part's zero. Assumes nothing.
 use borrow.Author.Needs.{needs}
-use mathlib.Core.Path.{ap}
-use Rattle.chip.specs.Chip.{fresh, withQueue, withStamp}
+use lib.ListN.{replicate}
 use Rattle.chip.proofs.chip.Chip.fresh_at.Statement.{statement}
 use Rattle.chip.proofs.chip.Chip.fresh_at.Tie as tie
 
 empty-requires : tie.Need-empty-requires
 empty-requires c κs = search needs
 
+zero-requires : tie.Need-zero-requires
+zero-requires c κs = search needs
+
+zero-requires-2 : tie.Need-zero-requires-2
+zero-requires-2 c κs = search needs
+
+zero-requires-3 : tie.Need-zero-requires-3
+zero-requires-3 c κs = search needs
+
 returns : tie.Need-returns
-returns c = ap (λ q. withQueue q (withStamp (c .before .args .stamp) fresh)) (c .empty .ensures)
+returns c =
+    λ i.
+    record {
+      stamp = c .before .before .before .before .args .stamp;
+      queue = c .before .before .before .empty .ensures i;
+      bank = c .before .before .zero .ensures i;
+      sources = replicate 8 0;
+      control = c .before .zero2 .ensures i;
+      switches = c .zero3 .ensures i;
+    }
 
 pub fresh-at-spec : {M : Type 1} → statement M
-fresh-at-spec = tie.close (tie.spec empty-requires returns)
+fresh-at-spec = tie.close (tie.spec empty-requires zero-requires zero-requires-2 zero-requires-3 returns)

@@ -129,12 +129,6 @@ enum-told-13 c = search needs
 replied-requires-6 : tie.Need-replied-requires-6
 replied-requires-6 c κs = search needs
 
-enum-told-14 : tie.Need-enum-told-14
-enum-told-14 c = search needs
-
-replied-requires-7 : tie.Need-replied-requires-7
-replied-requires-7 c κs = search needs
-
 returns : tie.Need-returns
 unfolding readAt
 returns c =
@@ -225,12 +219,6 @@ returns-15 c =
     let s = c .before .before .before .args .self in
     c .replied6 .ensures ∙ ap (λ (p : Place). readAt p s) (sym (c .before .enum-told13 .given .1))
 
-returns-16 : tie.Need-returns-16
-unfolding readAt
-returns-16 c =
-    let s = c .before .before .before .args .self in
-    c .replied7 .ensures ∙ ap (λ (p : Place). readAt p s) (sym (c .before .enum-told14 .given .1))
-
 pub read-at-spec : {M : Type 1} → statement M
 read-at-spec =
     tie.close
@@ -275,8 +263,6 @@ read-at-spec =
     read-counter-requires
     enum-told-13
     replied-requires-6
-    enum-told-14
-    replied-requires-7
     returns
     returns-2
     returns-3
@@ -291,5 +277,4 @@ read-at-spec =
     returns-12
     returns-13
     returns-14
-    returns-15
-    returns-16)
+    returns-15)

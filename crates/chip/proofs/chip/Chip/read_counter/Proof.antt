@@ -1,7 +1,7 @@
 -- `chip::chip::Chip::read_counter` meets its contract: busy shadows give a wait or no data. Assumes nothing.
 use borrow.Author.Needs.{needs}
 use mathlib.Core.Path.{_≡_, refl, sym, ap, ap₂, _∙_}
-use Prim.Native.Nat.{ℕ, _^_}
+use Prim.Native.Nat.{ℕ}
 use mathlib.Core.Bool.{Bool, cond}
 use lib.ListN.{getD}
 use Rattle.counters.specs.Bank.{copied}
@@ -16,9 +16,9 @@ use Rattle.chip.proofs.chip.Chip.read_counter.Statement.{statement}
 use Rattle.chip.proofs.chip.Chip.read_counter.Tie as tie
 
 -- the answer by what the two tests say
-by-tests : (i : ℕ) (s : Chip) {held wait : Bool} → busy (s .queue) ≡ held → s .control .readwait ≡ wait → readCounter i s ≡ cond held (cond wait (replied Wait (withControl (waited (s .control)) s)) (record { chip = s; value = 2 ^ 63; reply = Busy })) (done (getD (s .bank .values) i 0) (withBank (copied (s .bank)) s))
+by-tests : (i : ℕ) (s : Chip) {held wait : Bool} → busy (s .queue) ≡ held → s .control .readwait ≡ wait → readCounter i s ≡ cond held (cond wait (replied Wait (withControl (waited (s .control)) s)) (replied Busy s)) (done (getD (s .bank .values) i 0) (withBank (copied (s .bank)) s))
 unfolding readCounter
-by-tests i s p q = λ k. cond (p k) (cond (q k) (replied Wait (withControl (waited (s .control)) s)) (record { chip = s; value = 2 ^ 63; reply = Busy })) (done (getD (s .bank .values) i 0) (withBank (copied (s .bank)) s))
+by-tests i s p q = λ k. cond (p k) (cond (q k) (replied Wait (withControl (waited (s .control)) s)) (replied Busy s)) (done (getD (s .bank .values) i 0) (withBank (copied (s .bank)) s))
 
 busy-requires : tie.Need-busy-requires
 busy-requires c κs = search needs
@@ -39,10 +39,14 @@ returns c =
     ∙ ap (replied Wait) (c .before .controlled .ensures ∙ ap (λ (k : Control). withControl k (a .self)) (c .before .before .waited .ensures))
     ∙ sym (by-tests (a .index) (a .self) (sym (c .before .before .before .before .before .busy .ensures) ∙ c .before .before .before .before .if1 .taken) (c .before .before .before .if2 .taken))
 
+replied-requires-2 : tie.Need-replied-requires-2
+replied-requires-2 c κs = search needs
+
 returns-2 : tie.Need-returns-2
 returns-2 c =
-    let a = c .before .before .before .args in
-    sym (by-tests (a .index) (a .self) (sym (c .before .before .busy .ensures) ∙ c .before .if1 .taken) (c .if2 .left))
+    let a = c .before .before .before .before .args in
+    c .replied2 .ensures
+    ∙ sym (by-tests (a .index) (a .self) (sym (c .before .before .before .busy .ensures) ∙ c .before .before .if1 .taken) (c .before .if2 .left))
 
 copied-requires : tie.Need-copied-requires
 copied-requires c κs = search needs
@@ -75,6 +79,7 @@ read-counter-spec =
     controlled-requires
     replied-requires
     returns
+    replied-requires-2
     returns-2
     copied-requires
     banked-requires

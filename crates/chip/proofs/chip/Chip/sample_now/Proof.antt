@@ -30,7 +30,7 @@ returns : tie.Need-returns
 returns c =
     let a = c .before .before .before .before .args in
     let header = ap₂ (λ (r l : ℕ). a .line + 8 * r + 16 * l) (c .before .one .ensures .0) (c .one2 .ensures .0) in
-    λ i. record { user = a .word % 2 ^ 48; stamp = a .self .stamp % 2 ^ 40; source = c .before .before .source .ensures i; header = header i }
+    λ i. record { user = a .bits % 2 ^ 48; stamp = a .self .stamp % 2 ^ 40; source = c .before .before .source .ensures i; header = header i }
 
 pub sample-now-spec : {M : Type 1} → statement M
 sample-now-spec =

@@ -4,6 +4,7 @@ use mathlib.Core.Path.{sym, ap, _∙_}
 use mathlib.Core.Bool.{Bool, cond}
 use Rattle.queue.specs.Queue.{advanced, nextWord}
 use Rattle.queue.specs.declared.queue.Sent.{Sent}
+use Rattle.queue.proofs.SendLaws.{send-next}
 use Rattle.chip.specs.Chip.{done, replied, send, withQueue}
 use Rattle.chip.specs.declared.reply.Reply.the-variants.{NoWord}
 use Rattle.chip.proofs.ChipLaws.{guard-in, guard-out}
@@ -30,17 +31,21 @@ returns c =
 send-requires : tie.Need-send-requires
 send-requires c κs = search needs
 
+cast-done : tie.Need-cast-done
+cast-done c = search needs
+
 done-requires : tie.Need-done-requires
 done-requires c κs = search needs
 
 returns-2 : tie.Need-returns-2
 unfolding send
 returns-2 c =
-    let s = c .before .before .before .before .before .before .before .before .args .self in
+    let s = c .before .before .before .before .before .before .before .before .before .args .self in
+    let some = sym (c .before .before .before .before .before .before .none-held .ensures) ∙ c .before .before .before .before .before .if2 .left in
     c .done .ensures
-    ∙ ap (λ (r : Sent). done (r .word) (withQueue (r .queue) s)) (c .before .before .send .ensures)
-    ∙ ap (λ (b : Bool). cond b (replied NoWord s) (done (nextWord (s .bank .shadows) (s .queue)) (withQueue (advanced (s .queue)) s))) (sym (sym (c .before .before .before .before .before .none-held .ensures) ∙ c .before .before .before .before .if2 .left))
-    ∙ guard-in s _ (sym (c .before .before .before .before .before .before .before .inside .ensures) ∙ c .before .before .before .before .before .before .if1 .taken)
+    ∙ ap (λ (r : Sent). done (r .word) (withQueue (r .queue) s)) (c .before .before .before .send .ensures ∙ send-next (s .bank .shadows) (s .queue) some)
+    ∙ ap (λ (b : Bool). cond b (replied NoWord s) (done (nextWord (s .bank .shadows) (s .queue)) (withQueue (advanced (s .queue)) s))) (sym some)
+    ∙ guard-in s _ (sym (c .before .before .before .before .before .before .before .before .inside .ensures) ∙ c .before .before .before .before .before .before .before .if1 .taken)
 
 replied-requires-2 : tie.Need-replied-requires-2
 replied-requires-2 c κs = search needs
@@ -60,6 +65,7 @@ send-spec =
     replied-requires
     returns
     send-requires
+    cast-done
     done-requires
     returns-2
     replied-requires-2

@@ -2,23 +2,26 @@
 use borrow.Author.Needs.{needs}
 use mathlib.Core.Path.{sym, ap, _∙_}
 use mathlib.Core.Bool.{Bool, cond}
-use lib.Count.{onesIn, trailing-le}
+use lib.Count.{onesIn}
 use borrow.Author.Tests.{eq-eqb, ne-eqb}
 use Rattle.words.proofs.WordLaws.{ones-in}
 use Rattle.chip.specs.Chip.{fateOf, lineOf, replied, trigger, triggerBy}
 use Rattle.chip.specs.declared.reply.Reply.the-variants.{Lines}
+use Rattle.chip.proofs.LineLaws.{line-below}
 use Rattle.chip.proofs.chip.Chip.trigger.Statement.{statement}
 use Rattle.chip.proofs.chip.Chip.trigger.Tie as tie
 
 trigger-line-requires : tie.Need-trigger-line-requires
-trigger-line-requires c κs = trailing-le 8 (c .before .args .lines)
+trigger-line-requires c κs =
+    let lines = c .before .args .lines in
+    line-below lines (eq-eqb (onesIn 8 lines) 1 (sym (ones-in 8 lines (search needs)) ∙ c .if1 .taken))
 
 returns : tie.Need-returns
 unfolding trigger
 returns c =
     let a = c .before .before .args in
     c .trigger-line .ensures
-    ∙ ap (λ (b : Bool). cond b (triggerBy (fateOf (a .resource) (a .level) (a .self)) (a .resource) (lineOf (a .lines)) (a .word) (a .self)) (replied Lines (a .self)))
+    ∙ ap (λ (b : Bool). cond b (triggerBy (fateOf (a .resource) (a .level) (a .self)) (a .resource) (lineOf (a .lines)) (a .bits) (a .self)) (replied Lines (a .self)))
     (sym (eq-eqb (onesIn 8 (a .lines)) 1 (sym (ones-in 8 (a .lines) (search needs)) ∙ c .before .if1 .taken)))
 
 replied-requires : tie.Need-replied-requires
@@ -29,7 +32,7 @@ unfolding trigger
 returns-2 c =
     let a = c .before .before .args in
     c .replied .ensures
-    ∙ ap (λ (b : Bool). cond b (triggerBy (fateOf (a .resource) (a .level) (a .self)) (a .resource) (lineOf (a .lines)) (a .word) (a .self)) (replied Lines (a .self)))
+    ∙ ap (λ (b : Bool). cond b (triggerBy (fateOf (a .resource) (a .level) (a .self)) (a .resource) (lineOf (a .lines)) (a .bits) (a .self)) (replied Lines (a .self)))
     (sym (ne-eqb (onesIn 8 (a .lines)) 1 (λ q. c .before .if1 .left (ones-in 8 (a .lines) (search needs) ∙ q))))
 
 pub trigger-spec : {M : Type 1} → statement M

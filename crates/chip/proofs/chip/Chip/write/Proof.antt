@@ -20,7 +20,7 @@ unfolding write
 returns c =
     let a = c .before .before .before .before .args in
     c .write-at .ensures
-    ∙ ap (λ p. writeAt p (a .word) (a .lines) (a .self)) (c .before .find .ensures)
+    ∙ ap (λ p. writeAt p (a .bits) (a .lines) (a .self)) (c .before .find .ensures)
     ∙ guard-in (a .self) _ (sym (c .before .before .before .inside .ensures) ∙ c .before .before .if1 .taken)
 
 replied-requires : tie.Need-replied-requires

@@ -1,10 +1,7 @@
--- `chip::chip::Chip::write_at` meets its contract: each arm is one case of the map, and the last one two. Assumes nothing.
+-- `chip::chip::Chip::write_at` meets its contract: each arm is one case of the map. Assumes nothing.
 use borrow.Author.Needs.{needs}
-use mathlib.Core.Path.{sym, ap, ap₂, _∙_}
-use mathlib.Core.Bool.{Bool}
-use mathlib.Core.Logic.{⊎-elim}
-use Prim.Native.Nat.{ℕ}
-use Rattle.chip.specs.Chip.{done, trigger, withBank, withControl, withSwitches, writeAt}
+use mathlib.Core.Path.{sym, ap, _∙_}
+use Rattle.chip.specs.Chip.{done, withBank, withControl, withSwitches, writeAt}
 use Rattle.chip.specs.declared.place.Place.{Place}
 use Rattle.chip.proofs.chip.Chip.write_at.Statement.{statement}
 use Rattle.chip.proofs.chip.Chip.write_at.Tie as tie
@@ -162,12 +159,6 @@ done-requires-11 c κs = search needs
 enum-known-place-3 : tie.Need-enum-known-place-3
 enum-known-place-3 c = search needs
 
-enum-known-place-4 : tie.Need-enum-known-place-4
-enum-known-place-4 c = search needs
-
-takes-counters-requires : tie.Need-takes-counters-requires
-takes-counters-requires c κs = search needs
-
 trigger-requires : tie.Need-trigger-requires
 trigger-requires c κs = search needs
 
@@ -176,111 +167,105 @@ unfolding writeAt
 returns c =
     let a = c .before .before .before .args in
     let s = a .self in
-    c .replied .ensures ∙ ap (λ (p : Place). writeAt p (a .word) (a .lines) s) (sym (c .before .enum-told .given .1))
+    c .replied .ensures ∙ ap (λ (p : Place). writeAt p (a .bits) (a .lines) s) (sym (c .before .enum-told .given .1))
 
 returns-2 : tie.Need-returns-2
 unfolding writeAt
 returns-2 c =
     let a = c .before .before .before .args in
     let s = a .self in
-    c .replied2 .ensures ∙ ap (λ (p : Place). writeAt p (a .word) (a .lines) s) (sym (c .before .enum-told2 .given .1))
+    c .replied2 .ensures ∙ ap (λ (p : Place). writeAt p (a .bits) (a .lines) s) (sym (c .before .enum-told2 .given .1))
 
 returns-3 : tie.Need-returns-3
 unfolding writeAt
 returns-3 c =
     let a = c .before .before .before .before .args in
     let s = a .self in
-    c .done .ensures ∙ ap (done 0) (c .before .soft-reset .ensures) ∙ ap (λ (p : Place). writeAt p (a .word) (a .lines) s) (sym (c .before .before .enum-told3 .given .1))
+    c .done .ensures ∙ ap (done 0) (c .before .soft-reset .ensures) ∙ ap (λ (p : Place). writeAt p (a .bits) (a .lines) s) (sym (c .before .before .enum-told3 .given .1))
 
 returns-4 : tie.Need-returns-4
 unfolding writeAt
 returns-4 c =
     let a = c .before .before .before .before .before .args in
     let s = a .self in
-    c .done2 .ensures ∙ ap (done 0) (c .before .controlled .ensures ∙ ap (λ k. withControl k s) (c .before .before .configured .ensures)) ∙ ap (λ (p : Place). writeAt p (a .word) (a .lines) s) (sym (c .before .before .before .enum-told4 .given .1))
+    c .done2 .ensures ∙ ap (done 0) (c .before .controlled .ensures ∙ ap (λ k. withControl k s) (c .before .before .configured .ensures)) ∙ ap (λ (p : Place). writeAt p (a .bits) (a .lines) s) (sym (c .before .before .before .enum-told4 .given .1))
 
 returns-5 : tie.Need-returns-5
 unfolding writeAt
 returns-5 c =
     let a = c .before .before .before .args in
     let s = a .self in
-    c .replied3 .ensures ∙ ap (λ (p : Place). writeAt p (a .word) (a .lines) s) (sym (c .before .enum-told5 .given .1))
+    c .replied3 .ensures ∙ ap (λ (p : Place). writeAt p (a .bits) (a .lines) s) (sym (c .before .enum-told5 .given .1))
 
 returns-6 : tie.Need-returns-6
 unfolding writeAt
 returns-6 c =
     let a = c .before .before .before .before .before .args in
     let s = a .self in
-    c .done3 .ensures ∙ ap (done 0) (c .before .controlled2 .ensures ∙ ap (λ k. withControl k s) (c .before .before .filtering .ensures)) ∙ ap (λ (p : Place). writeAt p (a .word) (a .lines) s) (sym (c .before .before .before .enum-told6 .given .1))
+    c .done3 .ensures ∙ ap (done 0) (c .before .controlled2 .ensures ∙ ap (λ k. withControl k s) (c .before .before .filtering .ensures)) ∙ ap (λ (p : Place). writeAt p (a .bits) (a .lines) s) (sym (c .before .before .before .enum-told6 .given .1))
 
 returns-7 : tie.Need-returns-7
 unfolding writeAt
 returns-7 c =
     let a = c .before .before .before .before .before .args in
     let s = a .self in
-    c .done4 .ensures ∙ ap (done 0) (c .before .controlled3 .ensures ∙ ap (λ k. withControl k s) (c .before .before .waits-cleared .ensures)) ∙ ap (λ (p : Place). writeAt p (a .word) (a .lines) s) (sym (c .before .before .before .enum-told7 .given .1))
+    c .done4 .ensures ∙ ap (done 0) (c .before .controlled3 .ensures ∙ ap (λ k. withControl k s) (c .before .before .waits-cleared .ensures)) ∙ ap (λ (p : Place). writeAt p (a .bits) (a .lines) s) (sym (c .before .before .before .enum-told7 .given .1))
 
 returns-8 : tie.Need-returns-8
 unfolding writeAt
 returns-8 c =
     let a = c .before .before .before .before .before .args in
     let s = a .self in
-    c .done5 .ensures ∙ ap (done 0) (c .before .controlled4 .ensures ∙ ap (λ k. withControl k s) (c .before .before .overruns-cleared .ensures)) ∙ ap (λ (p : Place). writeAt p (a .word) (a .lines) s) (sym (c .before .before .before .enum-told8 .given .1))
+    c .done5 .ensures ∙ ap (done 0) (c .before .controlled4 .ensures ∙ ap (λ k. withControl k s) (c .before .before .overruns-cleared .ensures)) ∙ ap (λ (p : Place). writeAt p (a .bits) (a .lines) s) (sym (c .before .before .before .enum-told8 .given .1))
 
 returns-9 : tie.Need-returns-9
 unfolding writeAt
 returns-9 c =
     let a = c .before .before .before .before .before .args in
     let s = a .self in
-    c .done6 .ensures ∙ ap (done 0) (c .before .switched .ensures ∙ ap (λ k. withSwitches k s) (c .before .before .selecting .ensures)) ∙ ap (λ (p : Place). writeAt p (a .word) (a .lines) s) (sym (c .before .before .before .enum-told9 .given .1))
+    c .done6 .ensures ∙ ap (done 0) (c .before .switched .ensures ∙ ap (λ k. withSwitches k s) (c .before .before .selecting .ensures)) ∙ ap (λ (p : Place). writeAt p (a .bits) (a .lines) s) (sym (c .before .before .before .enum-told9 .given .1))
 
 returns-10 : tie.Need-returns-10
 unfolding writeAt
 returns-10 c =
     let a = c .before .before .before .before .before .args in
     let s = a .self in
-    c .done7 .ensures ∙ ap (done 0) (c .before .banked .ensures ∙ ap (λ k. withBank k s) (c .before .before .cleared .ensures)) ∙ ap (λ (p : Place). writeAt p (a .word) (a .lines) s) (sym (c .before .before .before .enum-told10 .given .1))
+    c .done7 .ensures ∙ ap (done 0) (c .before .banked .ensures ∙ ap (λ k. withBank k s) (c .before .before .cleared .ensures)) ∙ ap (λ (p : Place). writeAt p (a .bits) (a .lines) s) (sym (c .before .before .before .enum-told10 .given .1))
 
 returns-11 : tie.Need-returns-11
 unfolding writeAt
 returns-11 c =
     let a = c .before .before .before .before .before .args in
     let s = a .self in
-    c .done8 .ensures ∙ ap (done 0) (c .before .switched2 .ensures ∙ ap (λ k. withSwitches k s) (c .before .before .enabling .ensures)) ∙ ap (λ (p : Place). writeAt p (a .word) (a .lines) s) (sym (c .before .before .before .enum-told11 .given .1))
+    c .done8 .ensures ∙ ap (done 0) (c .before .switched2 .ensures ∙ ap (λ k. withSwitches k s) (c .before .before .enabling .ensures)) ∙ ap (λ (p : Place). writeAt p (a .bits) (a .lines) s) (sym (c .before .before .before .enum-told11 .given .1))
 
 returns-12 : tie.Need-returns-12
 unfolding writeAt
 returns-12 c =
     let a = c .before .before .before .before .before .args in
     let s = a .self in
-    c .done9 .ensures ∙ ap (done 0) (c .before .switched3 .ensures ∙ ap (λ k. withSwitches k s) (c .before .before .disabling .ensures)) ∙ ap (λ (p : Place). writeAt p (a .word) (a .lines) s) (sym (c .before .before .before .enum-told12 .given .1))
+    c .done9 .ensures ∙ ap (done 0) (c .before .switched3 .ensures ∙ ap (λ k. withSwitches k s) (c .before .before .disabling .ensures)) ∙ ap (λ (p : Place). writeAt p (a .bits) (a .lines) s) (sym (c .before .before .before .enum-told12 .given .1))
 
 returns-13 : tie.Need-returns-13
 unfolding writeAt
 returns-13 c =
     let a = c .before .before .before .before .before .args in
     let s = a .self in
-    c .done10 .ensures ∙ ap (done 0) (c .before .sourced .ensures) ∙ ap (λ (p : Place). writeAt p (a .word) (a .lines) s) (sym (c .before .before .before .place .given .1))
+    c .done10 .ensures ∙ ap (done 0) (c .before .sourced .ensures) ∙ ap (λ (p : Place). writeAt p (a .bits) (a .lines) s) (sym (c .before .before .before .place .given .1))
 
 returns-14 : tie.Need-returns-14
 unfolding writeAt
 returns-14 c =
     let a = c .before .before .before .before .before .before .args in
     let s = a .self in
-    c .done11 .ensures ∙ ap (done 0) (c .before .banked2 .ensures ∙ ap (λ k. withBank k s) (c .before .before .fired .ensures)) ∙ ap (λ (p : Place). writeAt p (a .word) (a .lines) s) (sym (c .before .before .before .before .place2 .given .1))
+    c .done11 .ensures ∙ ap (done 0) (c .before .banked2 .ensures ∙ ap (λ k. withBank k s) (c .before .before .fired .ensures)) ∙ ap (λ (p : Place). writeAt p (a .bits) (a .lines) s) (sym (c .before .before .before .before .place2 .given .1))
 
 returns-15 : tie.Need-returns-15
 unfolding writeAt
 returns-15 c =
-    let a = c .before .before .before .args in
+    let a = c .before .before .before .before .args in
     let s = a .self in
-    let arm = c .before .before .match in
-    let counters = c .before .takes-counters in
-    c .trigger .ensures
-    ∙ ⊎-elim
-    (λ w. ap₂ (λ (r : Bool) (l : ℕ). trigger r l (a .word) (a .lines) s) (counters .ensures .0 (w .1 .given .0 .0) (w .3)) (w .4) ∙ ap (λ (p : Place). writeAt p (a .word) (a .lines) s) (sym (w .1 .given .1)))
-    (λ w. ap₂ (λ (r : Bool) (l : ℕ). trigger r l (a .word) (a .lines) s) (counters .ensures .1 (w .1 .given .0 .0) (w .3)) (w .4) ∙ ap (λ (p : Place). writeAt p (a .word) (a .lines) s) (sym (w .1 .given .1)))
-    (arm .came)
+    c .trigger .ensures ∙ ap (λ (p : Place). writeAt p (a .bits) (a .lines) s) (sym (c .before .before .place3 .given .1))
 
 pub write-at-spec : {M : Type 1} → statement M
 write-at-spec =
@@ -337,8 +322,6 @@ write-at-spec =
     banked-requires-2
     done-requires-11
     enum-known-place-3
-    enum-known-place-4
-    takes-counters-requires
     trigger-requires
     returns
     returns-2

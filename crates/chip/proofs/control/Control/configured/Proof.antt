@@ -21,7 +21,7 @@ pair-requires-3 c κs = search needs
 returns : tie.Need-returns
 returns c =
     let a = c .before .before .before .args in
-    let first = c .before .before .pair .ensures ∙ ap (λ (n : ℕ). pair (eqb (n % 2) 1) (bit (a .word) 1) (a .self .sampling)) (sym (div-one (a .word))) in
+    let first = c .before .before .pair .ensures ∙ ap (λ (n : ℕ). pair (eqb (n % 2) 1) (bit (a .bits) 1) (a .self .sampling)) (sym (div-one (a .bits))) in
     λ i.
     record {
       wait = a .self .wait;

@@ -4,20 +4,17 @@ use borrow.Author.Tests.{lt-ltb, le-ltb}
 use Rattle.queue.proofs.queue.Queue.pushed.Statement.{statement}
 use Rattle.queue.proofs.queue.Queue.pushed.Tie as tie
 
-mul-places : tie.Need-mul-places
-mul-places c = search needs
-
-array-set-from-places : tie.Need-array-set-from-places
-array-set-from-places c = search needs
+stored-requires : tie.Need-stored-requires
+stored-requires c κs = search needs
 
 add-self : tie.Need-add-self
 add-self c = search needs
 
 returns : tie.Need-returns
-returns c = rw (lt-ltb (c .before .before .args .self .held) 8 (search needs))
+returns c = rw (lt-ltb (c .before .before .before .args .self .held) 8 (search needs), c .stored .ensures)
 
 returns-2 : tie.Need-returns-2
 returns-2 c = rw (le-ltb (c .before .args .self .held) 8 (search needs))
 
 pub pushed-spec : {M : Type 1} → statement M
-pushed-spec = tie.close (tie.spec mul-places array-set-from-places add-self returns returns-2)
+pushed-spec = tie.close (tie.spec stored-requires add-self returns returns-2)

@@ -1,7 +1,13 @@
--- `queue::queue::Queue::send` meets its contract: the word, then the queue after it. Assumes nothing.
+-- `queue::queue::Queue::send` meets its contract: the test decides, then the word and the queue after it. Assumes nothing.
 use borrow.Author.Needs.{needs}
+use borrow.Author.Tests.{eq-eqb, ne-eqb}
+use mathlib.Core.Path.{sym, _∙_}
+use Rattle.queue.proofs.SendLaws.{send-next}
 use Rattle.queue.proofs.queue.Queue.send.Statement.{statement}
 use Rattle.queue.proofs.queue.Queue.send.Tie as tie
+
+returns : tie.Need-returns
+returns c = rw (eq-eqb (c .before .before .args .self .held) 0 (c .if1 .taken))
 
 next-word-requires : tie.Need-next-word-requires
 next-word-requires c κs = search needs
@@ -9,11 +15,11 @@ next-word-requires c κs = search needs
 advanced-requires : tie.Need-advanced-requires
 advanced-requires c κs = search needs
 
-cast-t5 : tie.Need-cast-t5
-cast-t5 c = search needs
-
-returns : tie.Need-returns
-returns c = λ i. record { queue = c .advanced .ensures i; word = c .before .next-word .ensures i }
+returns-2 : tie.Need-returns-2
+returns-2 c =
+    let a = c .before .before .before .before .args in
+    (λ i. record { queue = c .advanced .ensures i; word = c .before .next-word .ensures i })
+    ∙ sym (send-next (a .shadows) (a .self) (ne-eqb (a .self .held) 0 (c .before .before .if1 .left)))
 
 pub send-spec : {M : Type 1} → statement M
-send-spec = tie.close (tie.spec next-word-requires advanced-requires cast-t5 returns)
+send-spec = tie.close (tie.spec returns next-word-requires advanced-requires returns-2)
