@@ -6,8 +6,7 @@ use lib.Dec.{eqb, ltb}
 use lib.ListN.{drop, getD, length}
 use Rattle.words.specs.Bytes.{number}
 use Rattle.chip.specs.Chip.{externalEvents, hardReset, nodeTicks, read, send, timestampTicks, write}
-use Rattle.chip.specs.Reply.{replyNumber}
-use Rattle.chip.specs.declared.chip.Answer.{Answer}
+use Rattle.chip.specs.Reply.{Told}
 use Rattle.chip.specs.declared.chip.Chip.{Chip}
 use Rattle.script.specs.declared.operation.Operation.{Operation}
 use Rattle.script.specs.declared.operation.Operation.the-variants.{Bad, Reset, Write, Read, Ticks, Nodes, Events, Send}
@@ -39,9 +38,9 @@ operationOf bytes =
     Bad)
     Bad
 
--- an answer with document 01's number for its reply
-abbrev pub outcomeOf : Answer → Outcome
-outcomeOf a = record { chip = a .chip; value = a .value; number = replyNumber (a .reply) }
+-- what an answer tells: the next chip, the reply's number and the value
+abbrev pub outcomeOf : Told → Outcome
+outcomeOf t = record { chip = t .chip; value = t .value; number = t .number }
 
 -- what a record does; "9 bad bench record", value 0, the record the same
 unfoldable pub runOf : Operation → Chip → Outcome

@@ -6,6 +6,7 @@ ghost use mathlib.Core.Path.{_≡_};
 ghost use Prim.Native.Nat.{_+_, _≤_, _<_, _^_};
 ghost use lib.ListN.{drop, length, take};
 ghost use Rattle.words.specs.Bytes.{number};
+ghost use Rattle.chip.specs.Reply.{told};
 ghost use Rattle.script.specs.Record.{byKind, fitting, operationOf, outcomeOf, runOf};
 
 const TWO_8: u64 = 1 << 8;
@@ -140,7 +141,7 @@ pub fn run(chip: Chip, operation: Operation) -> Outcome
 }
 
 fn numbered(answer: Answer) -> Outcome
-    ensures { λ r. ⌜ r ≡ outcomeOf answer ⌝ }
+    ensures { λ r. ⌜ r ≡ outcomeOf (told answer) ⌝ }
 {
     let chip = answer.chip;
     let reply = answer.reply;
