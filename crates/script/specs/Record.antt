@@ -6,8 +6,7 @@ use lib.Dec.{eqb, ltb}
 use lib.ListN.{drop, getD, length}
 use Rattle.words.specs.Bytes.{number}
 use Rattle.chip.specs.Chip.{externalEvents, hardReset, nodeTicks, read, send, timestampTicks, write}
-use Rattle.chip.specs.Reply.{replyNumber}
-use Rattle.chip.specs.declared.chip.Answer.{Answer}
+use Rattle.chip.specs.Reply.{Told}
 use Rattle.chip.specs.declared.chip.Chip.{Chip}
 use Rattle.script.specs.declared.operation.Operation.{Operation}
 use Rattle.script.specs.declared.operation.Operation.the-variants.{Bad, Reset, Write, Read, Ticks, Nodes, Events, Send}
@@ -15,18 +14,18 @@ use Rattle.script.specs.declared.operation.Outcome.{Outcome}
 
 -- "Reply 9: .. tick count above 4,294,967,295, mask above 65,535": a number of so many bits, or a bad record
 abbrev pub fitting : ℕ → (ℕ → Operation) → ℕ → Operation
-fitting bits f word = cond (ltb word (2 ^ bits)) (f word) Bad
+fitting width f bits = cond (ltb bits (2 ^ width)) (f bits) Bad
 
 -- "Kinds: 0 hardware reset, 1 write, 2 read, 3 Timestamp ticks, 4 node ticks, 5 external events, 6 send one word. Fields a kind
 -- doesn't need are ignored. Reply 9: kind above 6"
 unfoldable pub byKind : ℕ → ℕ → ℕ → ℕ → Operation
-byKind kind address lines word =
+byKind kind address lines bits =
     cond (eqb kind 0) Reset
-    (cond (eqb kind 1) (Write address word lines)
+    (cond (eqb kind 1) (Write address bits lines)
     (cond (eqb kind 2) (Read address)
-    (cond (eqb kind 3) (fitting 32 Ticks word)
-    (cond (eqb kind 4) (fitting 32 Nodes word)
-    (cond (eqb kind 5) (fitting 16 Events word)
+    (cond (eqb kind 3) (fitting 32 Ticks bits)
+    (cond (eqb kind 4) (fitting 32 Nodes bits)
+    (cond (eqb kind 5) (fitting 16 Events bits)
     (cond (eqb kind 6) Send Bad))))))
 
 -- "12-byte records: kind, address, lines, a zero byte, data (8 bytes, low first)"; "Reply 9: .. nonzero fourth byte, .. or a last part
@@ -39,15 +38,15 @@ operationOf bytes =
     Bad)
     Bad
 
--- an answer with document 01's number for its reply
-abbrev pub outcomeOf : Answer → Outcome
-outcomeOf a = record { chip = a .chip; value = a .value; number = replyNumber (a .reply) }
+-- what an answer tells: the next chip, the reply's number and the value
+abbrev pub outcomeOf : Told → Outcome
+outcomeOf t = record { chip = t .chip; value = t .value; number = t .number }
 
 -- what a record does; "9 bad bench record", value 0, the record the same
 unfoldable pub runOf : Operation → Chip → Outcome
 runOf Bad c = record { chip = c; value = 0; number = 9 }
 runOf Reset c = outcomeOf (hardReset c)
-runOf (Write address word lines) c = outcomeOf (write address word lines c)
+runOf (Write address bits lines) c = outcomeOf (write address bits lines c)
 runOf (Read address) c = outcomeOf (read address c)
 runOf (Ticks k) c = outcomeOf (timestampTicks k c)
 runOf (Nodes k) c = outcomeOf (nodeTicks k c)

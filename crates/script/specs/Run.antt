@@ -1,6 +1,7 @@
 -- Document 01, "Bench program": the records of an input, one after the other, and the text they give.
 use Prim.Native.Nat.{ℕ, zero, suc, _+_, _*_, _/_, min}
-use mathlib.Core.List.{List, [], _++_}
+use mathlib.Core.Bool.{Bool, cond}
+use mathlib.Core.List.{List, [], _∷_, _++_}
 use lib.ListN.{drop, length, take}
 use Rattle.chip.specs.declared.chip.Chip.{Chip}
 use Rattle.script.specs.Line.{answerLine}
@@ -52,3 +53,37 @@ unfoldable pub blockBuffer : List ℕ → List ℕ → Chip → List ℕ
 blockBuffer input out c =
     let text = textAfter (blockCount input (length out)) input c in
     text ++ drop (length text) out
+
+-- An input comes in reads of any sizes. The whole records at the front of what has come, and the part of a record behind them, which
+-- waits for its rest.
+abbrev pub wholeSize : ℕ → ℕ
+wholeSize size = 12 * (size / 12)
+
+unfoldable pub whole : List ℕ → List ℕ
+whole bytes = take (wholeSize (length bytes)) bytes
+
+unfoldable pub part : List ℕ → List ℕ
+part bytes = drop (wholeSize (length bytes)) bytes
+
+-- how much of what has come is answered: its whole records; at the end of the input "a last part of a record" too
+abbrev pub dueSize : Bool → ℕ → ℕ
+dueSize ended size = cond ended size (wholeSize size)
+
+unfoldable pub due : Bool → List ℕ → List ℕ
+due ended bytes = take (dueSize ended (length bytes)) bytes
+
+-- the chip and the text of an input that comes in these reads, behind a part that waits: each read's whole records, and at the end the
+-- last part
+unfoldable pub readsChip : List (List ℕ) → List ℕ → Chip → Chip
+readsChip [] waiting c = inputChip waiting c
+readsChip (came ∷ reads) waiting c = readsChip reads (part (waiting ++ came)) (inputChip (whole (waiting ++ came)) c)
+
+unfoldable pub readsText : List (List ℕ) → List ℕ → Chip → List ℕ
+readsText [] waiting c = inputText waiting c
+readsText (came ∷ reads) waiting c =
+    inputText (whole (waiting ++ came)) c ++ readsText reads (part (waiting ++ came)) (inputChip (whole (waiting ++ came)) c)
+
+-- all the bytes of these reads
+unfoldable pub joined : List (List ℕ) → List ℕ
+joined [] = []
+joined (came ∷ reads) = came ++ joined reads

@@ -6,7 +6,16 @@ ghost use mathlib.Core.Path.{_≡_};
 ghost use Prim.Native.Nat.{_+_, _≤_, _<_, _^_};
 ghost use lib.ListN.{drop, length, take};
 ghost use Rattle.words.specs.Bytes.{number};
+ghost use Rattle.chip.specs.Reply.{told};
 ghost use Rattle.script.specs.Record.{byKind, fitting, operationOf, outcomeOf, runOf};
+
+const TWO_8: u64 = 1 << 8;
+
+const TWO_16: u64 = 1 << 16;
+
+const TWO_24: u64 = 1 << 24;
+
+const TWO_32: u64 = 1 << 32;
 
 // What a record asks for; Bad is reply 9.
 pub enum Operation {
@@ -38,57 +47,57 @@ pub fn decode(bytes: &[u8]) -> Operation
     if bytes[3] != 0 {
         return Operation::Bad;
     }
-    by_kind(bytes[0], bytes[1], bytes[2], word_of(bytes))
+    by_kind(bytes[0], bytes[1], bytes[2], bits_of(bytes))
 }
 
-fn by_kind(kind: u8, address: u8, lines: u8, word: u64) -> Operation
-    ensures { λ r. ⌜ r ≡ byKind kind address lines word ⌝ }
+fn by_kind(kind: u8, address: u8, lines: u8, bits: u64) -> Operation
+    ensures { λ r. ⌜ r ≡ byKind kind address lines bits ⌝ }
 {
     match kind {
         0 => Operation::Reset,
-        1 => Operation::Write(address as u64, word, lines),
+        1 => Operation::Write(address as u64, bits, lines),
         2 => Operation::Read(address as u64),
-        3 => ticks(word),
-        4 => nodes(word),
-        5 => events(word),
+        3 => ticks(bits),
+        4 => nodes(bits),
+        5 => events(bits),
         6 => Operation::Send,
         _ => Operation::Bad,
     }
 }
 
-fn ticks(word: u64) -> Operation
-    ensures { λ r. ⌜ r ≡ fitting 32 Operation.Ticks word ⌝ }
+fn ticks(bits: u64) -> Operation
+    ensures { λ r. ⌜ r ≡ fitting 32 Operation.Ticks bits ⌝ }
 {
-    if word <= 4294967295 {
-        return Operation::Ticks(word as u32);
+    if bits < TWO_32 {
+        return Operation::Ticks(bits as u32);
     }
     Operation::Bad
 }
 
-fn nodes(word: u64) -> Operation
-    ensures { λ r. ⌜ r ≡ fitting 32 Operation.Nodes word ⌝ }
+fn nodes(bits: u64) -> Operation
+    ensures { λ r. ⌜ r ≡ fitting 32 Operation.Nodes bits ⌝ }
 {
-    if word <= 4294967295 {
-        return Operation::Nodes(word as u32);
+    if bits < TWO_32 {
+        return Operation::Nodes(bits as u32);
     }
     Operation::Bad
 }
 
-fn events(word: u64) -> Operation
-    ensures { λ r. ⌜ r ≡ fitting 16 Operation.Events word ⌝ }
+fn events(bits: u64) -> Operation
+    ensures { λ r. ⌜ r ≡ fitting 16 Operation.Events bits ⌝ }
 {
-    if word <= 65535 {
-        return Operation::Events(word as u16);
+    if bits < TWO_16 {
+        return Operation::Events(bits as u16);
     }
     Operation::Bad
 }
 
 // The data of a record: its last eight bytes, low first.
-fn word_of(bytes: &[u8]) -> u64
+fn bits_of(bytes: &[u8]) -> u64
     requires { ⌜ length (now bytes) ≡ 12 ⌝ }
     ensures { λ r. ⌜ r ≡ number (drop 4 (now (bytes .entry))) ⌝ }
 {
-    quad(bytes, 4) + 4294967296 * quad(bytes, 8)
+    quad(bytes, 4) + TWO_32 * quad(bytes, 8)
 }
 
 // The number of four bytes, low first.
@@ -101,7 +110,7 @@ fn quad(bytes: &[u8], at: usize) -> u64
     let b = wide(bytes[at + 1]);
     let c = wide(bytes[at + 2]);
     let d = wide(bytes[at + 3]);
-    a + 256 * b + 65536 * c + 16777216 * d
+    a + TWO_8 * b + TWO_16 * c + TWO_24 * d
 }
 
 fn wide(byte: u8) -> u64
@@ -122,7 +131,7 @@ pub fn run(chip: Chip, operation: Operation) -> Outcome
             number: 9,
         },
         Operation::Reset => numbered(chip.hardware_reset()),
-        Operation::Write(address, word, lines) => numbered(chip.write(address, word, lines)),
+        Operation::Write(address, bits, lines) => numbered(chip.write(address, bits, lines)),
         Operation::Read(address) => numbered(chip.read(address)),
         Operation::Ticks(count) => numbered(chip.timestamp_ticks(count)),
         Operation::Nodes(count) => numbered(chip.node_ticks(count)),
@@ -132,7 +141,7 @@ pub fn run(chip: Chip, operation: Operation) -> Outcome
 }
 
 fn numbered(answer: Answer) -> Outcome
-    ensures { λ r. ⌜ r ≡ outcomeOf answer ⌝ }
+    ensures { λ r. ⌜ r ≡ outcomeOf (told answer) ⌝ }
 {
     let chip = answer.chip;
     let reply = answer.reply;

@@ -11,8 +11,12 @@ slice-aggregate-write-all c = sym (length-take-le (c .before .before .args .size
 write-all-requires : tie.Need-write-all-requires
 write-all-requires c κs = search needs
 
+checked-requires : tie.Need-checked-requires
+checked-requires c κs = search needs
+
 returns : tie.Need-returns
 returns c = search needs
 
 pub show-spec : {M : Type 1} → statement M
-show-spec = tie.close (tie.spec slice-aggregate-write-all write-all-requires returns)
+show-spec =
+    tie.close (tie.spec slice-aggregate-write-all write-all-requires checked-requires returns)

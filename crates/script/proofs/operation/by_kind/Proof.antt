@@ -20,43 +20,43 @@ returns : tie.Need-returns
 unfolding byKind
 returns c =
     let a = c .before .args in
-    ap (λ (k : ℕ). byKind k (a .address) (a .lines) (a .word)) (sym (c .match .keys1))
+    ap (λ (k : ℕ). byKind k (a .address) (a .lines) (a .bits)) (sym (c .match .keys1))
 
 returns-2 : tie.Need-returns-2
 unfolding byKind
 returns-2 c =
     let a = c .before .args in
-    ap (λ (k : ℕ). byKind k (a .address) (a .lines) (a .word)) (sym (c .match .keys2))
+    ap (λ (k : ℕ). byKind k (a .address) (a .lines) (a .bits)) (sym (c .match .keys2))
 
 returns-3 : tie.Need-returns-3
 unfolding byKind
 returns-3 c =
     let a = c .before .args in
-    ap (λ (k : ℕ). byKind k (a .address) (a .lines) (a .word)) (sym (c .match .keys3))
+    ap (λ (k : ℕ). byKind k (a .address) (a .lines) (a .bits)) (sym (c .match .keys3))
 
 returns-4 : tie.Need-returns-4
 unfolding byKind
 returns-4 c =
     let a = c .before .before .args in
-    c .ticks .ensures ∙ ap (λ (k : ℕ). byKind k (a .address) (a .lines) (a .word)) (sym (c .before .match .keys4))
+    c .ticks .ensures ∙ ap (λ (k : ℕ). byKind k (a .address) (a .lines) (a .bits)) (sym (c .before .match .keys4))
 
 returns-5 : tie.Need-returns-5
 unfolding byKind
 returns-5 c =
     let a = c .before .before .args in
-    c .nodes .ensures ∙ ap (λ (k : ℕ). byKind k (a .address) (a .lines) (a .word)) (sym (c .before .match .keys5))
+    c .nodes .ensures ∙ ap (λ (k : ℕ). byKind k (a .address) (a .lines) (a .bits)) (sym (c .before .match .keys5))
 
 returns-6 : tie.Need-returns-6
 unfolding byKind
 returns-6 c =
     let a = c .before .before .args in
-    c .events .ensures ∙ ap (λ (k : ℕ). byKind k (a .address) (a .lines) (a .word)) (sym (c .before .match .keys6))
+    c .events .ensures ∙ ap (λ (k : ℕ). byKind k (a .address) (a .lines) (a .bits)) (sym (c .before .match .keys6))
 
 returns-7 : tie.Need-returns-7
 unfolding byKind
 returns-7 c =
     let a = c .before .args in
-    ap (λ (k : ℕ). byKind k (a .address) (a .lines) (a .word)) (sym (c .match .keys7))
+    ap (λ (k : ℕ). byKind k (a .address) (a .lines) (a .bits)) (sym (c .match .keys7))
 
 returns-8 : tie.Need-returns-8
 unfolding byKind

@@ -29,8 +29,8 @@ shared-slice-read-by-kind-2 c = search needs
 shared-slice-read-by-kind-3 : tie.Need-shared-slice-read-by-kind-3
 shared-slice-read-by-kind-3 c = search needs
 
-word-of-requires : tie.Need-word-of-requires
-word-of-requires c κs = search needs
+bits-of-requires : tie.Need-bits-of-requires
+bits-of-requires c κs = search needs
 
 by-kind-requires : tie.Need-by-kind-requires
 by-kind-requires c κs = search needs
@@ -39,7 +39,7 @@ returns-3 : tie.Need-returns-3
 unfolding operationOf
 returns-3 c =
     let l = c .before .before .before .before .before .before .before .before .before .args .bytes .now in
-    c .by-kind .ensures ∙ ap (byKind (getD l 0 0) (getD l 1 0) (getD l 2 0)) (c .before .word-of .ensures)
+    c .by-kind .ensures ∙ ap (byKind (getD l 0 0) (getD l 1 0) (getD l 2 0)) (c .before .bits-of .ensures)
     ∙ rw (eq-eqb (length l) 12 (c .before .before .before .before .before .before .before .if1 .left), eq-eqb (getD l 3 0) 0 (c .before .before .before .before .before .if2 .left))
 
 pub decode-spec : {M : Type 1} → statement M
@@ -52,6 +52,6 @@ decode-spec =
     shared-slice-read-by-kind
     shared-slice-read-by-kind-2
     shared-slice-read-by-kind-3
-    word-of-requires
+    bits-of-requires
     by-kind-requires
     returns-3)

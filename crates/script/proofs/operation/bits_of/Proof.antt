@@ -1,10 +1,10 @@
--- `script::operation::word_of` meets its contract: eight bytes are four and then four. Assumes nothing.
+-- `script::operation::bits_of` meets its contract: eight bytes are four and then four. Assumes nothing.
 use borrow.Author.Needs.{needs}
 use mathlib.Core.Path.{sym, ap₂, _∙_}
 use Prim.Native.Nat.{ℕ, _+_, _*_, _^_}
 use Rattle.script.proofs.RecordLaws.{eight-bytes}
-use Rattle.script.proofs.operation.word_of.Statement.{statement}
-use Rattle.script.proofs.operation.word_of.Tie as tie
+use Rattle.script.proofs.operation.bits_of.Statement.{statement}
+use Rattle.script.proofs.operation.bits_of.Tie as tie
 
 quad-requires : tie.Need-quad-requires
 quad-requires c κs = search needs
@@ -24,5 +24,5 @@ returns c =
     ap₂ (λ (x y : ℕ). x + 2 ^ 32 * y) (c .before .quad .ensures .0) (c .quad2 .ensures .0)
     ∙ sym (eight-bytes l (search needs))
 
-pub word-of-spec : {M : Type 1} → statement M
-word-of-spec = tie.close (tie.spec quad-requires quad-requires-2 mul-result add-result returns)
+pub bits-of-spec : {M : Type 1} → statement M
+bits-of-spec = tie.close (tie.spec quad-requires quad-requires-2 mul-result add-result returns)
