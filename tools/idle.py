@@ -19,6 +19,9 @@ ROOT = os.path.dirname(os.path.dirname(os.path.abspath(__file__)))
 # a Resource sample's counters as they are, not as they were copied at its trigger
 SENT = (' .bank .shadows', ' .bank .values')
 
+# what a sample is made of at its trigger
+NOW = 'crates/chip/proofs/chip/Chip/sample_now/Proof.antt'
+
 
 def swapped(number, place, other_number, other_place):
     """Two registers exchange their addresses, in code and definition."""
@@ -38,20 +41,21 @@ VERSIONS = {
         'the queue is full with seven samples', [
             ('crates/queue/src/queue.rt', '8 <= self.held', '7 <= self.held'),
             ('crates/queue/specs/Queue.antt', 'full q = leb 8 (q .held)', 'full q = leb 7 (q .held)'),
-        ], ['queue', 'chip'], [('history', 'holds-full'), ('marked', 'marked-examples')]),
+        ], ['queue'], [('chip', 'rows-room')]),
     'loses_every_trace_trigger': (
         'every Trace trigger lacks room', [
             ('crates/chip/src/chip.rt', 'if resource { self.queue.busy() } else { false }', 'if resource { self.queue.busy() } else { true }'),
             ('crates/chip/specs/Chip.antt', 'blocked resource q = resource && busy q', 'blocked resource q = cond resource (busy q) true'),
             ('crates/chip/proofs/chip/Chip/blocked/Proof.antt', 'use mathlib.Core.Bool.{Bool, _&&_}', 'use mathlib.Core.Bool.{Bool, true, cond}'),
             ('crates/chip/proofs/chip/Chip/blocked/Proof.antt', 'b && busy (a .self .queue)', 'cond b (busy (a .self .queue)) true'),
-        ], ['chip'], [('history', 'blocked-same'), ('marked', 'marked-examples')]),
+        ], [], [('chip', 'rows-room')]),
     'refuses_every_trigger': (
         'no processor lines are one line, so every trigger is answered with 4', [
             ('crates/chip/src/chip.rt', 'u8::count_ones(lines) == 1', 'u8::count_ones(lines) == 9'),
             ('crates/chip/specs/Chip.antt', 'oneLine lines = eqb (onesIn 8 lines) 1', 'oneLine lines = eqb (onesIn 8 lines) 9'),
             ('crates/chip/proofs/chip/Chip/trigger/Proof.antt', '(sym (eq-eqb (onesIn 8 (a .lines)) 1', '(sym (eq-eqb (onesIn 8 (a .lines)) 9'),
             ('crates/chip/proofs/chip/Chip/trigger/Proof.antt', '(sym (ne-eqb (onesIn 8 (a .lines)) 1', '(sym (ne-eqb (onesIn 8 (a .lines)) 9'),
+            ('crates/chip/proofs/chip/Chip/trigger/Proof.antt', '(eq-eqb (onesIn 8 lines) 1', '(eq-eqb (onesIn 8 lines) 9'),
             ('crates/chip/proofs/LineLaws.antt', 'onesIn 8 lines ≡ 1 = eqb-true (onesIn 8 lines) 1 e', 'onesIn 8 lines ≡ 9 = eqb-true (onesIn 8 lines) 9 e'),
             ('crates/chip/proofs/LineLaws.antt', 'ap (λ (n : ℕ). eqb n 1) (sym (ones-low 8 lines))', 'ap (λ (n : ℕ). eqb n 9) (sym (ones-low 8 lines))'),
         ], [], [('chip', 'one-line')]),
@@ -90,6 +94,34 @@ VERSIONS = {
             ('crates/queue/proofs/BoundLaws.antt', 'push-places h q e = go (ltb (q .held) 8)', 'push-places h q e = go (ltb (q .held) 1)'),
             ('crates/history/proofs/HoldsLaws.antt', '(sym (lt-ltb (q .held) 8 room))', '(sym (lt-ltb (q .held) 1 room))'),
         ], ['queue', 'chip'], [('history', 'holds-pushed'), ('marked', 'marked-examples')]),
+    'loses_every_trigger': (
+        'every trigger lacks room, Resource triggers too', [
+            ('crates/queue/src/queue.rt', '8 <= self.held', '0 <= self.held'),
+            ('crates/queue/specs/Queue.antt', 'full q = leb 8 (q .held)', 'full q = leb 0 (q .held)'),
+        ], ['queue'], [('chip', 'rows-room')]),
+    'overruns_counted_twice': (
+        'a lost trigger adds two to the Overrun Counter', [
+            ('crates/chip/src/control.rt', 'wrapping_add_u32(self.overrun, 1)', 'wrapping_add_u32(self.overrun, 2)'),
+            ('crates/chip/specs/Control.antt', '(grown (c .overrun) 1)', '(grown (c .overrun) 2)'),
+        ], ['chip', 'marked'], [('history', 'by-fate')]),
+    'same_word_again': (
+        'every field of a sample is 0, so that all words are the same but for the end mark', [
+            ('crates/chip/src/chip.rt', 'user: bits % TWO_48,', 'user: bits % 1,'),
+            ('crates/chip/src/chip.rt', 'stamp: self.stamp % TWO_40,', 'stamp: self.stamp % 1,'),
+            ('crates/chip/src/chip.rt', 'source: self.source(line as usize),', 'source: self.source(line as usize) % 1,'),
+            ('crates/chip/src/chip.rt', 'header: line + 8', 'header: line % 1 + 8'),
+            ('crates/chip/specs/Chip.antt', 'user = bits % 2 ^ 48;', 'user = bits % 1;'),
+            ('crates/chip/specs/Chip.antt', 'stamp = c .stamp % 2 ^ 40;', 'stamp = c .stamp % 1;'),
+            ('crates/chip/specs/Chip.antt', 'source = getD (c .sources) line 0;', 'source = getD (c .sources) line 0 % 1;'),
+            ('crates/chip/specs/Chip.antt', 'headerOf line resource lost = line + 8', 'headerOf line resource lost = line % 1 + 8'),
+            (NOW, 'user = a .bits % 2 ^ 48; stamp = a .self .stamp % 2 ^ 40; source = c .before .before .source .ensures i;', 'user = a .bits % 1; stamp = a .self .stamp % 1; source = c .before .before .source .ensures i % 1;'),
+            (NOW, 'a .line + 8 * r', 'a .line % 1 + 8 * r'),
+            (NOW, '-t14', '-t16', 4),
+            (NOW, '-t13', '-t15', 4),
+            (NOW, '-t11', '-t13', 4),
+            (NOW, '-t10', '-t12', 4),
+            ('crates/chip/proofs/Words.antt', '(within-at 4 8 (c .sources) (s .sources) line) (omega arith)', '(omega arith) (omega arith)'),
+        ], ['chip'], [('history', 'header-same'), ('marked', 'marked-examples')]),
     'waits_and_overruns_exchanged': (
         'addresses 5 and 6 are exchanged', swapped(5, 'Waits', 6, 'Overruns'),
         ['chip', 'marked'], [('history', 'write-kept')]),
@@ -137,7 +169,7 @@ VERSIONS = {
         "a sample's header never has bit 4", [
             ('crates/chip/src/chip.rt', '16 * one(self.control.lost)', '0 * one(self.control.lost)'),
             ('crates/chip/specs/Chip.antt', '16 * one lost', '0 * one lost'),
-            ('crates/chip/proofs/chip/Chip/sample_now/Proof.antt', '+ 16 * l)', '+ 0 * l)'),
+            (NOW, '+ 16 * l)', '+ 0 * l)'),
         ], ['chip', 'marked'], [('history', 'header-same')]),
     'every_sample_of_line_0': (
         "a sample has line 0's number and Source Address, whatever the line", [
