@@ -3,8 +3,10 @@
 use Prim.Native.Nat.{ℕ}
 use mathlib.Core.Path.{_≡_, refl, sym, ap, _∙_}
 use mathlib.Core.Bool.{true}
+use lib.ListN.{replicate}
 use Rattle.chip.specs.Chip.{done, fresh, inside, softReset, withStamp, write, writeAt}
 use Rattle.chip.specs.Operation.{opReset, opWrite, step}
+use Rattle.chip.specs.Parts.{numbersOf}
 use Rattle.chip.specs.Place.{placeOf, registerOf}
 use Rattle.chip.specs.declared.chip.Chip.{Chip}
 use Rattle.chip.proofs.ChipLaws.{guard-in}
@@ -12,6 +14,11 @@ use Rattle.chip.proofs.ChipLaws.{guard-in}
 -- "Hardware reset: every part becomes zero, Timestamp included. That is a fresh chip"
 pub hard-reset : (c : Chip) → step opReset c ≡ done 0 fresh
 hard-reset c = refl
+
+-- "every part becomes zero": 3 numbers and 8 places of 4 numbers of the queue and Timestamp, 16 counters and shadows, 8 Source Addresses,
+-- 7 numbers and 6 marks of the settings
+pub fresh-zero : numbersOf fresh ≡ replicate 88 0
+fresh-zero = refl
 
 -- what a software reset makes of a record
 pub reset-record : (c : Chip) → softReset c ≡ withStamp (c .stamp) fresh

@@ -1,4 +1,5 @@
--- A buffer send does what that many single sends do, and writes the words that they give: along the words sent. Assumes nothing.
+-- A buffer send does what that many single sends do, and writes the words that they give: along the words sent. Assumes, where
+-- said, a record inside its bounds.
 use Prim.Native.Nat.{ℕ, zero, suc, _≤_, _<_, zero-le}
 use native.Mathlib.Nat.{le-of-suc-le-suc, not-suc-le-zero}
 use mathlib.Core.Path.{_≡_, refl, sym, ap, ap₂, _∙_, subst}

@@ -1,5 +1,6 @@
 -- What is sent are the words of the first sample held, one after the other; a trigger with reply 0 takes a sample, and it is one that the
--- writer takes, so the reader gives it back: its fields are cut to their widths at the trigger. Assumes nothing.
+-- writer takes, so the reader gives it back: its fields are cut to their widths at the trigger. Assumes,
+-- where said, a record inside its bounds with the lists that its types give, and a line below 8.
 use Prim.Native.Nat.{ℕ, _+_, _/_, _%_, _^_, _≤_, _<_}
 use native.Mathlib.Omega.{arith}
 use mathlib.Core.Path.{_≡_, refl, sym, ap, _∙_, subst}

@@ -2,6 +2,7 @@ pub mod Chip
 pub mod Control
 pub mod Fate
 pub mod Operation
+pub mod Parts
 pub mod Place
 pub mod Repeat
 pub mod Reply

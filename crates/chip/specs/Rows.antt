@@ -160,3 +160,14 @@ refused n = between 1 5 n || eqb n 15
 -- "112..127 Resource trigger"
 abbrev pub resourceTrigger : Operation → Bool
 resourceTrigger op = case (λ a lines. between 112 127 a) (λ a. false) false op
+
+-- what may write the shadows: resets, a Resource trigger ("also copies all counters to the shadows") and "A counter read"
+abbrev pub copying : Operation → Bool
+copying opReset = true
+copying (opWrite a bits lines) = eqb a 0 || between 112 127 a
+copying (opRead a) = counterAt a
+copying (opTicks k) = false
+copying (opNodes k) = false
+copying (opEvents mask) = false
+copying opSend = false
+copying (opFill room) = false

@@ -19,7 +19,7 @@ use Rattle.chip.specs.declared.place.Place.{Place}
 use Rattle.chip.specs.declared.place.Place.the-variants.{Beyond, Nowhere, Source, Counter, Trigger}
 use Rattle.chip.proofs.AddressLaws.{or-rest, place-beyond, place-counter, place-trigger, same, same-eq, upTo, upTo-at}
 use Rattle.chip.proofs.LineLaws.{one-line}
-use Rattle.history.specs.Ledger.{Entry, Ledger, byRange, lineAlone, lineIn, tells, vacant}
+use Rattle.history.specs.Ledger.{Entry, Ledger, byRange, lineIn, lineNumber, tells, vacant}
 
 -- what is shown of each number below another
 abbrev pub Below : ℕ → (ℕ → Type 0) → Type 0
@@ -136,14 +136,14 @@ zeros-low (suc k) n =
 
 -- "exactly one active processor line", and its number
 pub line-same : (lines : ℕ) → oneLine lines ≡ ltb (lineIn lines) 8
-unfolding lineAlone
+unfolding lineNumber
 line-same lines =
     let one : (alone (lines % 256) ∷ []) ≡ (ltb (lineIn lines) 8 ∷ []) =
-    same-eq _ _ (upTo-at 256 (λ b. same (alone b ∷ []) (ltb (lineAlone b) 8 ∷ [])) refl (lines % 256) (mod-lt lines (zero-lt-suc 255))) in
+    same-eq _ _ (upTo-at 256 (λ b. same (alone b ∷ []) (ltb (lineNumber b) 8 ∷ [])) refl (lines % 256) (mod-lt lines (zero-lt-suc 255))) in
     one-line lines ∙ ap (λ (bs : List Bool). getD bs 0 false) one
 
 pub line-is : (lines : ℕ) → ltb (lineIn lines) 8 ≡ true → lineOf lines ≡ lineIn lines
-unfolding lineAlone trailingZeros
+unfolding lineNumber trailingZeros
 line-is lines e =
     sym (zeros-low 8 lines)
-    ∙ eqb-true _ _ (or-rest (not (ltb (lineIn lines) 8)) _ (upTo-at 256 (λ b. not (ltb (lineAlone b) 8) || eqb (lineOf b) (lineAlone b)) refl (lines % 256) (mod-lt lines (zero-lt-suc 255))) (ap not e))
+    ∙ eqb-true _ _ (or-rest (not (ltb (lineIn lines) 8)) _ (upTo-at 256 (λ b. not (ltb (lineNumber b) 8) || eqb (lineOf b) (lineNumber b)) refl (lines % 256) (mod-lt lines (zero-lt-suc 255))) (ap not e))

@@ -15,7 +15,7 @@ use Rattle.queue.specs.declared.queue.Queue.{Queue}
 use Rattle.chip.specs.Chip.{inside, sentBuffer}
 use Rattle.chip.specs.Operation.{Operation, opReset, opWrite, opRead, opTicks, opNodes, opEvents, opSend, opFill, step}
 use Rattle.chip.specs.declared.chip.Chip.{Chip}
-use Rattle.history.specs.Ledger.{Entry, Fate, Ledger, byFate, byRange, fateIn, held, left, lineIn, readIn, readLow, resetAt, sampleIn, sentMore, tells, toldOf, triggered, vacant, wasFiltered, wasLost, wasOff, wasTaken, wasTold, written, writtenLow}
+use Rattle.history.specs.Ledger.{Entry, Fate, Ledger, afterFate, byFate, byRange, fateIn, held, left, lineIn, readIn, readLow, resetAt, sampleIn, sentMore, tells, entryOf, triggered, vacant, wasFiltered, wasLost, wasOff, wasTaken, wasTold, written, writtenLow}
 use Rattle.history.specs.Run.{comeWithin, streamAfter}
 use Rattle.history.specs.Stream.{anyHeld, heldOf, lengthOf, totalOf, wordsOfAll}
 use Rattle.history.proofs.Agrees.{Agrees, Kept, chipFor, for-inside}
@@ -38,7 +38,7 @@ stay l e t n = record { is = ap₂ (λ (k : ℕ) (ss : List Sample). take k (wor
 
 -- what a fate leaves of the stream
 fate-stream : (f : Fate) (r : Bool) (line bits : ℕ) (l : Ledger) → l .sent ≤ length (wordsOfAll (l .taken)) → Stays l (byFate f r line bits l)
-unfolding byFate
+unfolding afterFate
 fate-stream wasOff r line bits l h = stay l _ refl refl
 fate-stream wasFiltered r line bits l h = stay l _ refl refl
 fate-stream wasLost r line bits l h = stay l _ refl refl
@@ -88,11 +88,11 @@ module _ (l : Ledger) (c : Chip) (a : Agrees l c) where
   sent-within = subst (λ (n : ℕ). l .sent ≤ n) (sym (words-total (l .taken) (a .good .sixteen))) (a .good .holds .enough)
 
   -- a single send adds the next word, if one is left
-  send-words : take (l .sent) (wordsOfAll (l .taken)) ++ cond (eqb (step opSend c .number) 0) (step opSend c .value ∷ []) [] ≡ take (toldOf opSend l .ledger .sent) (wordsOfAll (toldOf opSend l .ledger .taken))
-  unfolding toldOf
+  send-words : take (l .sent) (wordsOfAll (l .taken)) ++ cond (eqb (step opSend c .number) 0) (step opSend c .value ∷ []) [] ≡ take (entryOf opSend l .ledger .sent) (wordsOfAll (entryOf opSend l .ledger .taken))
+  unfolding entryOf
   send-words = go (eqb (left l) 0) refl (k .number) (k .value)
     where
-      k : Kept (toldOf opSend l) (step opSend c)
+      k : Kept (entryOf opSend l) (step opSend c)
       k = agrees-step opSend l c a
 
       told : Bool → Entry
@@ -111,12 +111,12 @@ module _ (l : Ledger) (c : Chip) (a : Agrees l c) where
           ∙ ap (λ (m : ℕ). take m (wordsOfAll (l .taken))) one
 
   fill-words : (room : ℕ) → take (l .sent) (wordsOfAll (l .taken)) ++ take (step (opFill room) c .value) (sentBuffer c (replicate room 0)) ≡ take (l .sent + min room (left l)) (wordsOfAll (l .taken))
-  unfolding toldOf sentBuffer sendBuffer
+  unfolding entryOf sentBuffer sendBuffer
   fill-words room =
       let q : Queue = a .queue in
       let sh : List ℕ = a .shadows in
       let m : ℕ = min room (left l) in
-      let k : Kept (toldOf (opFill room) l) (step (opFill room) c) = agrees-step (opFill room) l c a in
+      let k : Kept (entryOf (opFill room) l) (step (opFill room) c) = agrees-step (opFill room) l c a in
       let x = many (l .taken) (a .good .sixteen) sh room (l .sent) q (a .good .holds) in
       let rest : length (drop (l .sent) (wordsOfAll (l .taken))) ≡ left l = length-drop (l .sent) (wordsOfAll (l .taken)) ∙ ap (λ (n : ℕ). n - l .sent) (words-total (l .taken) (a .good .sixteen)) in
       let size : length (sendWords room sh q) ≡ m = ap length (x .0) ∙ length-take-le m (drop (l .sent) (wordsOfAll (l .taken))) (rw rest (omega arith)) in
@@ -131,8 +131,8 @@ module _ (l : Ledger) (c : Chip) (a : Agrees l c) where
           ap (λ (b : Bool). cond b (sendBuffer sh q (replicate n 0)) (replicate n 0)) e
           ∙ ap (λ (w : ℕ). sendWords w sh q ++ drop (length (sendWords w sh q)) (replicate n 0)) (length-replicate n 0)
 
-  pub stream-step : (op : Operation) (ws : List ℕ) → ws ≡ take (l .sent) (wordsOfAll (l .taken)) → streamAfter op c ws ≡ take (toldOf op l .ledger .sent) (wordsOfAll (toldOf op l .ledger .taken))
-  unfolding streamAfter toldOf wordsOfAll written byRange vacant writtenLow
+  pub stream-step : (op : Operation) (ws : List ℕ) → ws ≡ take (l .sent) (wordsOfAll (l .taken)) → streamAfter op c ws ≡ take (entryOf op l .ledger .sent) (wordsOfAll (entryOf op l .ledger .taken))
+  unfolding streamAfter entryOf wordsOfAll written byRange vacant writtenLow
   stream-step opReset ws e = refl
   stream-step (opWrite address bits lines) ws e = go (eqb address 0) refl
     where
@@ -150,11 +150,11 @@ module _ (l : Ledger) (c : Chip) (a : Agrees l c) where
 
 -- n tries give the first n of the words that are left
 pub come-words : (n : ℕ) (l : Ledger) (c : Chip) → Agrees l c → comeWithin n c ≡ take n (drop (l .sent) (wordsOfAll (l .taken)))
-unfolding comeWithin toldOf
+unfolding comeWithin entryOf
 come-words zero l c a = refl
-come-words (suc n) l c a = go (eqb (left l) 0) refl (k .number) (k .value) (come-words n (toldOf opSend l .ledger) (step opSend c .chip) (k .agrees))
+come-words (suc n) l c a = go (eqb (left l) 0) refl (k .number) (k .value) (come-words n (entryOf opSend l .ledger) (step opSend c .chip) (k .agrees))
   where
-    k : Kept (toldOf opSend l) (step opSend c)
+    k : Kept (entryOf opSend l) (step opSend c)
     k = agrees-step opSend l c a
 
     told : Bool → Entry

@@ -16,7 +16,7 @@ use Rattle.chip.specs.Shape.{Shaped}
 use Rattle.chip.specs.declared.chip.Chip.{Chip}
 use Rattle.chip.proofs.Bounds.{fresh-shaped, keeps-shaped}
 use Rattle.chip.proofs.Bounds.{never-15 as inside-never-15}
-use Rattle.history.specs.Ledger.{Entry, Fate, Ledger, byFate, fateIn, fateNumber, ledgerFrom, ledgerOf, left, lineIn, noCounter, resetAt, tells, toldOf, triggered, wasFiltered, wasLost, wasOff, wasTaken, wasTold, written}
+use Rattle.history.specs.Ledger.{Entry, Fate, Ledger, byFate, fateIn, fateNumber, ledgerFrom, ledgerOf, left, lineIn, noCounter, resetAt, tells, entryOf, triggered, written}
 use Rattle.history.specs.Run.{chipOf, comeWithin, runFrom, sentFrom, sentOf, toCome}
 use Rattle.history.specs.Stream.{totalOf, wordsOfAll}
 use Rattle.history.proofs.Addresses.{range-trigger}
@@ -35,7 +35,7 @@ fresh-agrees = record { queue = emptyQueue; shadows = replicate 16 0; is = reset
 run-agrees : (ops : List Operation) (l : Ledger) (c : Chip) → Agrees l c → Agrees (ledgerFrom l ops) (runFrom c ops)
 unfolding ledgerFrom runFrom
 run-agrees [] l c a = a
-run-agrees (op ∷ ops) l c a = run-agrees ops (toldOf op l .ledger) (step op c .chip) (agrees-step op l c a .agrees)
+run-agrees (op ∷ ops) l c a = run-agrees ops (entryOf op l .ledger) (step op c .chip) (agrees-step op l c a .agrees)
 
 agrees : (ops : List Operation) → Agrees (ledgerOf ops) (chipOf ops)
 agrees ops = run-agrees ops (resetAt 0) fresh fresh-agrees
@@ -43,17 +43,17 @@ agrees ops = run-agrees ops (resetAt 0) fresh fresh-agrees
 run-stream : (ops : List Operation) (l : Ledger) (c : Chip) (ws : List ℕ) → Agrees l c → ws ≡ take (l .sent) (wordsOfAll (l .taken)) → sentFrom c ws ops ≡ take (ledgerFrom l ops .sent) (wordsOfAll (ledgerFrom l ops .taken))
 unfolding ledgerFrom sentFrom
 run-stream [] l c ws a e = e
-run-stream (op ∷ ops) l c ws a e = run-stream ops (toldOf op l .ledger) (step op c .chip) _ (agrees-step op l c a .agrees) (stream-step l c a op ws e)
+run-stream (op ∷ ops) l c ws a e = run-stream ops (entryOf op l .ledger) (step op c .chip) _ (agrees-step op l c a .agrees) (stream-step l c a op ws e)
 
 -- ---- 1. Replies
 
 -- every operation's whole reply is what the list before it says
-pub reply-said : (ops : List Operation) (op : Operation) → (step op (chipOf ops) .number ≡ toldOf op (ledgerOf ops) .number) × (step op (chipOf ops) .value ≡ toldOf op (ledgerOf ops) .value)
+pub reply-said : (ops : List Operation) (op : Operation) → (step op (chipOf ops) .number ≡ entryOf op (ledgerOf ops) .number) × (step op (chipOf ops) .value ≡ entryOf op (ledgerOf ops) .value)
 reply-said ops op = let k = agrees-step op (ledgerOf ops) (chipOf ops) (agrees ops) in (k .number, k .value)
 
 -- so each unrefused trigger's reply is that of its fate: from 112 on it is a Resource trigger, and its level is the address modulo 16
 pub trigger-fate : (ops : List Operation) (address bits lines : ℕ) → 96 ≤ address → address ≤ 127 → lineIn lines < 8 → step (opWrite address bits lines) (chipOf ops) .number ≡ fateNumber (fateIn (leb 112 address) (address % 16) (ledgerOf ops))
-unfolding toldOf written triggered byFate
+unfolding entryOf written triggered
 trigger-fate ops address bits lines p h e =
     let l : Ledger = ledgerOf ops in
     let r : Bool = leb 112 address in
@@ -61,14 +61,6 @@ trigger-fate ops address bits lines p h e =
     reply-said ops (opWrite address bits lines) .0
     ∙ ap (λ (x : Entry). x .number) (range-trigger address l _ _ _ _ p h)
     ∙ ap (λ (b : Bool). cond b (byFate f r (lineIn lines) bits l) (tells 4 0 l) .number) (lt-ltb (lineIn lines) 8 e)
-    ∙ number f r (lineIn lines) l
-  where
-    number : (f : Fate) (r : Bool) (line : ℕ) (l : Ledger) → byFate f r line bits l .number ≡ fateNumber f
-    number wasOff r line l = refl
-    number wasFiltered r line l = refl
-    number wasLost r line l = refl
-    number wasTold r line l = refl
-    number wasTaken r line l = refl
 
 -- ---- 2. The words sent since the last reset, then the words still to come, are the words of the samples taken since then
 

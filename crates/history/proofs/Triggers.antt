@@ -24,7 +24,7 @@ use Rattle.chip.specs.declared.chip.Chip.{Chip}
 use Rattle.chip.specs.declared.control.Control.{Control}
 use Rattle.counters.specs.declared.bank.Bank.{Bank}
 use Rattle.chip.specs.declared.reply.Reply.the-variants.{Lines, Wait}
-use Rattle.history.specs.Ledger.{Fate, Ledger, byFate, fateIn, held, lineIn, lostOne, sampleIn, tells, triggered, unmarked, waitedOne, wasFiltered, wasLost, wasOff, wasTaken, wasTold, withErrors}
+use Rattle.history.specs.Ledger.{Fate, Ledger, afterFate, byFate, fateIn, held, lineIn, lostOne, sampleIn, tells, triggered, unmarked, waitedOne, wasFiltered, wasLost, wasOff, wasTaken, wasTold, withErrors}
 use Rattle.history.specs.Stream.{anyHeld, isBlocked, isFull}
 use Rattle.history.proofs.Addresses.{line-is, line-same}
 use Rattle.history.proofs.Agrees.{Good, Kept, chipFor, controlOf, switchesOf}
@@ -149,7 +149,7 @@ module _ (l : Ledger) (q : Queue) (sh : List ℕ) (g : Good l q sh) where
 
   -- what each fate does
   by-fate : (f : Fate) (r : Bool) (line bits : ℕ) → line < 8 → Roomy f (lacksRoom r q) → Kept (byFate f r line bits l) (triggerBy (chipFate f) r line bits (chipFor l q sh))
-  unfolding byFate triggerBy
+  unfolding afterFate triggerBy
   by-fate wasOff r line bits h e = record { agrees = record { queue = q; shadows = sh; is = refl; good = g }; number = refl; value = refl }
   by-fate wasFiltered r line bits h e = record { agrees = record { queue = q; shadows = sh; is = refl; good = g }; number = refl; value = refl }
   by-fate wasLost r line bits h e =

@@ -116,13 +116,13 @@ abbrev pub node : ℕ
 node = 3
 
 -- the MUX field as such a number
-abbrev pub fieldOf : Counter → ℕ
-fieldOf k = cond (k .high) 2 0 + cond (k .low) 1 0
+abbrev pub muxOf : Counter → ℕ
+muxOf k = cond (k .high) 2 0 + cond (k .low) 1 0
 
 -- "An event counts if the counter is enabled and its field selects that kind": n events
 abbrev pub counted : ℕ → ℕ → Counter → Counter
 counted kind n k =
-    cond (k .on && eqb (fieldOf k) kind) (record { on = k .on; high = k .high; low = k .low; events = k .events + n }) k
+    cond (k .on && eqb (muxOf k) kind) (record { on = k .on; high = k .high; low = k .low; events = k .events + n }) k
 
 -- n events of a kind, for the counters that f names
 abbrev pub happened : ℕ → (ℕ → Bool) → ℕ → Ledger → Ledger
@@ -151,19 +151,19 @@ packed f (k ∷ ks) = cond (f k) 1 0 + 2 * packed f ks
 -- ---- triggers
 
 -- "exactly one active processor line" of the eight, and its number: line i alone is 2^i; 8 where it isn't so
-unfoldable pub lineAlone : ℕ → ℕ
-lineAlone n =
+unfoldable pub lineNumber : ℕ → ℕ
+lineNumber n =
     cond (eqb n 1) 0
     (cond (eqb n 2) 1 (cond (eqb n 4) 2 (cond (eqb n 8) 3 (cond (eqb n 16) 4 (cond (eqb n 32) 5 (cond (eqb n 64) 6 (cond (eqb n 128) 7 8)))))))
 
 abbrev pub lineIn : ℕ → ℕ
-lineIn lines = lineAlone (lines % 256)
+lineIn lines = lineNumber (lines % 256)
 
 -- "say which are held"
 abbrev pub held : Ledger → List Sample
 held l = heldOf (l .taken) (l .sent)
 
--- "off, filtered, lost, told to wait or taken"
+-- demand 3: off, filtered, lost, told to wait, or taken
 pub data Fate : Type 0 where
   wasOff wasFiltered wasLost wasTold wasTaken : Fate
 
@@ -221,13 +221,17 @@ pub record Entry : Type 0 where
 abbrev pub tells : ℕ → ℕ → Ledger → Entry
 tells n v l = record { number = n; value = v; ledger = l }
 
-unfoldable pub byFate : Fate → Bool → ℕ → ℕ → Ledger → Entry
-byFate wasOff resource line bits l = tells 6 0 l
-byFate wasFiltered resource line bits l = tells 7 0 l
-byFate wasLost resource line bits l = tells 8 0 (withErrors (lostOne (isFull (held l)) (isBlocked resource (held l)) (l .errors)) l)
-byFate wasTold resource line bits l = tells 10 0 (withErrors (waitedOne (l .errors)) l)
-byFate wasTaken resource line bits l =
-    tells 0 0 (withStream (l .taken ++ (sampleIn resource line bits l ∷ [])) (l .sent) (withErrors (unmarked (l .errors)) l))
+-- what a fate leaves: nothing, one trigger lost or one wait more, or one sample more
+unfoldable pub afterFate : Fate → Bool → ℕ → ℕ → Ledger → Ledger
+afterFate wasOff resource line bits l = l
+afterFate wasFiltered resource line bits l = l
+afterFate wasLost resource line bits l = withErrors (lostOne (isFull (held l)) (isBlocked resource (held l)) (l .errors)) l
+afterFate wasTold resource line bits l = withErrors (waitedOne (l .errors)) l
+afterFate wasTaken resource line bits l =
+    withStream (l .taken ++ (sampleIn resource line bits l ∷ [])) (l .sent) (withErrors (unmarked (l .errors)) l)
+
+abbrev pub byFate : Fate → Bool → ℕ → ℕ → Ledger → Entry
+byFate f resource line bits l = tells (fateNumber f) 0 (afterFate f resource line bits l)
 
 -- "4 trigger without exactly one active processor line"
 unfoldable pub triggered : Bool → ℕ → ℕ → ℕ → Ledger → Entry
@@ -330,22 +334,22 @@ abbrev pub sentMore : ℕ → Ledger → Ledger
 sentMore room l = withStream (l .taken) (l .sent + min room (left l)) l
 
 -- one operation
-unfoldable pub toldOf : Operation → Ledger → Entry
-toldOf opReset l = tells 0 0 (resetAt 0)
-toldOf (opWrite address bits lines) l = written address bits lines l
-toldOf (opRead address) l = readIn address l
-toldOf (opTicks k) l = tells 0 0 (withTicks k (happened slow (λ i. true) (slowIn (l .ticks) k) l))
-toldOf (opNodes k) l = tells 0 0 (happened node (λ i. true) k l)
-toldOf (opEvents mask) l = tells 0 0 (happened external (isSet mask) 1 l)
-toldOf opSend l = cond (eqb (left l) 0) (tells 5 0 l) (tells 0 (getD (wordsOfAll (l .taken)) (l .sent) 0) (sentMore 1 l))
-toldOf (opFill room) l = tells 0 (min room (left l)) (sentMore room l)
+unfoldable pub entryOf : Operation → Ledger → Entry
+entryOf opReset l = tells 0 0 (resetAt 0)
+entryOf (opWrite address bits lines) l = written address bits lines l
+entryOf (opRead address) l = readIn address l
+entryOf (opTicks k) l = tells 0 0 (withTicks k (happened slow (λ i. true) (slowIn (l .ticks) k) l))
+entryOf (opNodes k) l = tells 0 0 (happened node (λ i. true) k l)
+entryOf (opEvents mask) l = tells 0 0 (happened external (isSet mask) 1 l)
+entryOf opSend l = cond (eqb (left l) 0) (tells 5 0 l) (tells 0 (getD (wordsOfAll (l .taken)) (l .sent) 0) (sentMore 1 l))
+entryOf (opFill room) l = tells 0 (min room (left l)) (sentMore room l)
 
 -- ---- the fold
 
 -- all operations, from the oldest
 unfoldable pub ledgerFrom : Ledger → List Operation → Ledger
 ledgerFrom l [] = l
-ledgerFrom l (op ∷ ops) = ledgerFrom (toldOf op l .ledger) ops
+ledgerFrom l (op ∷ ops) = ledgerFrom (entryOf op l .ledger) ops
 
 -- what a list of operations from a fresh chip says
 abbrev pub ledgerOf : List Operation → Ledger
