@@ -1,26 +1,16 @@
 -- The rows' own words for room and for busy shadows agree with the definitions: one place after the other. Assumes nothing.
-use Prim.Native.Nat.{ℕ, zero, suc, _/_, _%_, _≤_, _<_}
-use native.Mathlib.Omega.{arith}
+use Prim.Native.Nat.{ℕ, zero, suc, _%_}
 use mathlib.Core.Path.{_≡_, refl, sym, ap, ap₂, _∙_}
 use mathlib.Core.Bool.{Bool, true, false, _&&_, _||_}
 use mathlib.Core.List.{List, [], _∷_}
-use lib.Dec.{leb, eqb}
+use lib.Dec.{leb}
 use lib.ListN.{getD, take}
-use borrow.Author.Tests.{eq-eqb, ne-eqb, leb-true, leb-false}
-use Rattle.samples.specs.Layout.{resource}
+use Rattle.samples.proofs.PlaceLaws.{resource-number}
 use Rattle.queue.specs.Queue.{anyResource, busy, zeroHeld}
 use Rattle.queue.specs.declared.queue.Held.{Held}
 use Rattle.chip.specs.Chip.{lacksRoom}
 use Rattle.chip.specs.Rows.{lacking, resourceHeld, someResource}
 use Rattle.chip.specs.declared.chip.Chip.{Chip}
-
--- "bit 3 set for a Resource sample"
-header-bit : (h : ℕ) → resource h ≡ leb 8 (h % 16)
-header-bit h = go (leb 8 (h % 16)) refl
-  where
-    go : (b : Bool) → leb 8 (h % 16) ≡ b → resource h ≡ b
-    go true e = let high : 8 ≤ h % 16 = leb-true 8 (h % 16) e in eq-eqb (h / 8 % 2) 1 (omega arith)
-    go false e = let low : h % 16 < 8 = leb-false 8 (h % 16) e in ne-eqb (h / 8 % 2) 1 (λ q. omega arith)
 
 or-swap : (a b x : Bool) → (a || (b || x)) ≡ (b || (a || x))
 or-swap true true x = refl
@@ -44,7 +34,7 @@ some-any : (n : ℕ) (hs : List Held) → anyResource (take n hs) ≡ someResour
 unfolding anyResource someResource
 some-any zero hs = refl
 some-any (suc n) [] = sym (some-none (suc n))
-some-any (suc n) (h ∷ hs) = ap₂ (λ (a b : Bool). a || b) (header-bit (h .header)) (some-any n hs) ∙ sym (some-cons n h hs)
+some-any (suc n) (h ∷ hs) = ap₂ (λ (a b : Bool). a || b) (resource-number (h .header)) (some-any n hs) ∙ sym (some-cons n h hs)
 
 pub rows-busy : (c : Chip) → busy (c .queue) ≡ resourceHeld c
 rows-busy c = some-any (c .queue .held) (c .queue .places)

@@ -1,22 +1,22 @@
 -- Document 01's numbers of the writer's and the reader's answers, each exactly in its case. 17, 18 and, of a word, 21 to 24 are equations
 -- between tests, so both ways. A part of a stream is in one of three cases, with three different answers: the first bad word decides; the
--- words are good but too few, 20; as many as are wanted are good, a sample, whatever comes after. By cases on the tests, and by
--- induction on the words. Assumes nothing.
-use Prim.Native.Nat.{ℕ, suc, _+_, _≤_, _<_, suc-le-suc}
+-- words are good but too few, 20; as many as are wanted are good, a sample, whatever comes after. So each number of a part is told both
+-- ways. By cases on the tests, and by induction on the words. Assumes nothing.
+use Prim.Native.Nat.{ℕ, zero, suc, _+_, _≤_, _<_, suc-le-suc}
 use native.Mathlib.Nat.{add-zero, not-suc-le-zero, zero-add, zero-lt-suc}
-use native.Mathlib.Numerals.{add-one}
 use native.Mathlib.Omega.{arith}
-use mathlib.Core.Path.{_≡_, refl, sym, ap, _∙_}
+use mathlib.Core.Path.{_≡_, refl, sym, ap, _∙_, subst}
+use mathlib.Core.Logic.{_↔_}
 use mathlib.Core.Bool.{Bool, true, false, cond, not, _&&_, false≢true}
-use mathlib.Core.List.{List, [], _∷_, _++_, append-nil, map}
+use mathlib.Core.List.{List, [], _∷_, _++_, map}
 use lib.Dec.{eqb, leb, ltb}
-use lib.ListN.{getD, length, length-append, List·getD-append}
-use lib.Seq.{append-snoc, getD-append-add}
+use lib.ListN.{drop, getD, length, take, getD-replicate}
+use lib.Seq.{drop-cons, drop-length}
 use borrow.Author.Tests.{eq-eqb, eqb-false, eqb-true, ltb-false, ltb-true, ne-eqb}
 use Rattle.words.specs.Word.{byteOf, marked, oddOnes, tooLarge}
-use Rattle.samples.specs.Layout.{Widths, resource, sampleLength, zeroSample}
+use Rattle.samples.specs.Layout.{Widths, resource, sampleLength}
 use Rattle.samples.specs.Write.{Row, row, writable, writeAnswer, writtenRow}
-use Rattle.samples.specs.Read.{Found, faultAt, found, foundBy, isGood, readPart, sampleOf, scan, verdictNumber, wanted}
+use Rattle.samples.specs.Read.{Found, faultAt, found, foundBy, isGood, nothing, readPart, sampleOf, scan, verdictNumber, wanted}
 use Rattle.samples.specs.declared.sample.Sample.{Sample}
 use Rattle.samples.specs.declared.reader.Reading.{Reading}
 use Rattle.samples.specs.declared.reader.Verdict.{Verdict}
@@ -24,6 +24,7 @@ use Rattle.samples.specs.declared.reader.Verdict.the-variants.{Good, Unf
 use Rattle.samples.specs.declared.writer.Written.{Written}
 use Rattle.samples.specs.declared.writer.Written.the-variants.{Short, Unfit, Words}
 use Rattle.samples.proofs.ReadLaws.{faultBy, scan-word}
+use Rattle.samples.proofs.Theorems.{accepted-count, accepted-words, accepted-writable, read-written}
 
 -- ---- the writer: 17 exactly for a sample that isn't writable, 18 for a writable one without room
 
@@ -93,96 +94,222 @@ reading-one a b e = λ i. record { sample = e i .sample; count = e i .count; ver
     same : a .verdict ≡ b .verdict
     same = sym (back (a .verdict)) ∙ ap (λ (f : Found). of (f .number)) e ∙ back (b .verdict)
 
-fault-tests : (large odd header last mark : Bool) → (eqb (verdictNumber (faultBy large odd header last mark)) 20 ≡ false) × (eqb (verdictNumber (faultBy large odd header last mark)) 21 ≡ large) × (eqb (verdictNumber (faultBy large odd header last mark)) 22 ≡ (not large && not odd)) × (eqb (verdictNumber (faultBy large odd header last mark)) 23 ≡ (not large && (odd && header))) × (eqb (verdictNumber (faultBy large odd header last mark)) 24 ≡ (not large && (odd && (not header && cond last (not mark) mark))))
-fault-tests true odd header last mark = (refl, refl, refl, refl, refl)
-fault-tests false false header last mark = (refl, refl, refl, refl, refl)
-fault-tests false true true last mark = (refl, refl, refl, refl, refl)
-fault-tests false true false true true = (refl, refl, refl, refl, refl)
-fault-tests false true false true false = (refl, refl, refl, refl, refl)
-fault-tests false true false false true = (refl, refl, refl, refl, refl)
-fault-tests false true false false false = (refl, refl, refl, refl, refl)
+fault-tests : (large odd header last mark : Bool) → (eqb (verdictNumber (faultBy large odd header last mark)) 20 ≡ false) × (eqb (verdictNumber (faultBy large odd header last mark)) 21 ≡ large) × (eqb (verdictNumber (faultBy large odd header last mark)) 22 ≡ (not large && not odd)) × (eqb (verdictNumber (faultBy large odd header last mark)) 23 ≡ (not large && (odd && header))) × (eqb (verdictNumber (faultBy large odd header last mark)) 24 ≡ (not large && (odd && (not header && cond last (not mark) mark)))) × (eqb (verdictNumber (faultBy large odd header last mark)) 0 ≡ (not large && (odd && (not header && cond last mark (not mark)))))
+fault-tests true odd header last mark = (refl, refl, refl, refl, refl, refl)
+fault-tests false false header last mark = (refl, refl, refl, refl, refl, refl)
+fault-tests false true true last mark = (refl, refl, refl, refl, refl, refl)
+fault-tests false true false true true = (refl, refl, refl, refl, refl, refl)
+fault-tests false true false true false = (refl, refl, refl, refl, refl, refl)
+fault-tests false true false false true = (refl, refl, refl, refl, refl, refl)
+fault-tests false true false false false = (refl, refl, refl, refl, refl, refl)
 
 -- the word at a place of a sample of n words, which alone is never 20: above 1023; else parity; else, of the first, header bits 5 to 7;
--- else the end mark missing on the last word or set on another
-pub fault-numbers : (n place w : ℕ) → (eqb (verdictNumber (faultAt n place w)) 20 ≡ false) × (eqb (verdictNumber (faultAt n place w)) 21 ≡ tooLarge w) × (eqb (verdictNumber (faultAt n place w)) 22 ≡ (not (tooLarge w) && not (oddOnes w))) × (eqb (verdictNumber (faultAt n place w)) 23 ≡ (not (tooLarge w) && (oddOnes w && (eqb place 0 && leb 32 (byteOf w))))) × (eqb (verdictNumber (faultAt n place w)) 24 ≡ (not (tooLarge w) && (oddOnes w && (not (eqb place 0 && leb 32 (byteOf w)) && cond (eqb (suc place) n) (not (marked w)) (marked w)))))
+-- else the end mark missing on the last word or set on another. A word with none of these is good, 0
+pub fault-numbers : (n place w : ℕ) → (eqb (verdictNumber (faultAt n place w)) 20 ≡ false) × (eqb (verdictNumber (faultAt n place w)) 21 ≡ tooLarge w) × (eqb (verdictNumber (faultAt n place w)) 22 ≡ (not (tooLarge w) && not (oddOnes w))) × (eqb (verdictNumber (faultAt n place w)) 23 ≡ (not (tooLarge w) && (oddOnes w && (eqb place 0 && leb 32 (byteOf w))))) × (eqb (verdictNumber (faultAt n place w)) 24 ≡ (not (tooLarge w) && (oddOnes w && (not (eqb place 0 && leb 32 (byteOf w)) && cond (eqb (suc place) n) (not (marked w)) (marked w))))) × (eqb (verdictNumber (faultAt n place w)) 0 ≡ (not (tooLarge w) && (oddOnes w && (not (eqb place 0 && leb 32 (byteOf w)) && cond (eqb (suc place) n) (marked w) (not (marked w))))))
 unfolding faultAt
 fault-numbers n place w = fault-tests (tooLarge w) (oddOnes w) (eqb place 0 && leb 32 (byteOf w)) (eqb (suc place) n) (marked w)
 
--- with 20 to 24 the sample is all zeros and the count 0
-pub refused-zeros : (w : Widths) (ws : List ℕ) → eqb (readPart w ws .number) 0 ≡ false → (readPart w ws .sample ≡ zeroSample) × (readPart w ws .count ≡ 0)
+-- "With 20 to 24 the reader's sample is all zeros and its word count 0", part by part
+pub record AllZeros (f : Found) : Type 0 where
+  pub header : f .sample .header ≡ 0
+  pub source : f .sample .source ≡ 0
+  pub stamp : f .sample .stamp ≡ 0
+  pub user : f .sample .user ≡ 0
+  pub sixteen : length (f .sample .counters) ≡ 16
+  pub counter : (i : ℕ) → i < 16 → getD (f .sample .counters) i 0 ≡ 0
+  pub count : f .count ≡ 0
+
+-- so with every number but a sample's
+pub refused-zeros : (w : Widths) (ws : List ℕ) → eqb (readPart w ws .number) 0 ≡ false → AllZeros (readPart w ws)
 unfolding readPart
 refused-zeros w ws e = go (scan (wanted w ws) 0 ws) e
   where
-    go : (v : Verdict) → eqb (foundBy v (sampleOf w (map byteOf ws)) (wanted w ws) .number) 0 ≡ false → (foundBy v (sampleOf w (map byteOf ws)) (wanted w ws) .sample ≡ zeroSample) × (foundBy v (sampleOf w (map byteOf ws)) (wanted w ws) .count ≡ 0)
-    go Good p = absurd (false≢true (sym p))
-    go Unfinished p = (refl, refl)
-    go TooLarge p = (refl, refl)
-    go Parity p = (refl, refl)
-    go Header p = (refl, refl)
-    go Mark p = (refl, refl)
+    zeros : (number : ℕ) → AllZeros (nothing number)
+    zeros number =
+        record {
+          header = refl;
+          source = refl;
+          stamp = refl;
+          user = refl;
+          sixteen = refl;
+          counter = λ i h. getD-replicate 16 i 0 0 h;
+          count = refl;
+        }
 
--- ---- the reader, over the words of a part whose sample has n words
+    go : (v : Verdict) → eqb (foundBy v (sampleOf w (map byteOf ws)) (wanted w ws) .number) 0 ≡ false → AllZeros (foundBy v (sampleOf w (map byteOf ws)) (wanted w ws))
+    go Good p = absurd (false≢true (sym p))
+    go Unfinished p = zeros 20
+    go TooLarge p = zeros 21
+    go Parity p = zeros 22
+    go Header p = zeros 23
+    go Mark p = zeros 24
+
+-- ---- the reader, over the words of a part
+
+-- what is wrong with the word at a place of a part, whose header says how many words its sample wants
+abbrev pub faultIn : Widths → List ℕ → ℕ → Verdict
+faultIn w ws p = faultAt (wanted w ws) p (getD ws p 0)
+
+-- the words below a place are good in their places
+abbrev pub GoodBelow : Widths → List ℕ → ℕ → Type 0
+GoodBelow w ws p = (j : ℕ) → j < p → isGood (faultIn w ws j) ≡ true
+
+-- a place of the part and of its sample, with no bad word before it
+pub record Reached (w : Widths) (ws : List ℕ) (p : ℕ) : Type 0 where
+  pub there : p < length ws
+  pub inside : p < wanted w ws
+  pub before : GoodBelow w ws p
 
 -- good words are a sample where there are as many as that, and else leave it to the words after them
-good-words : (n i : ℕ) (gs rest : List ℕ) → i < n → i + length gs ≤ n → ((j : ℕ) → j < length gs → isGood (faultAt n (i + j) (getD gs j 0)) ≡ true) → scan n i (gs ++ rest) ≡ cond (eqb (i + length gs) n) Good (scan n (i + length gs) rest)
-good-words n i [] rest more few good = rw (add-zero, ne-eqb i n (λ q. omega arith))
-good-words n i (w ∷ gs) rest more few good = scan-word n i w (gs ++ rest) (rw add-zero at (good 0 (zero-lt-suc (length gs)))) ∙ go (eqb (suc i) n) refl (good-words n (suc i) gs rest)
+good-words : (n i k : ℕ) (ws : List ℕ) → i < n → i + k ≤ n → k ≤ length ws → ((j : ℕ) → j < k → isGood (faultAt n (i + j) (getD ws j 0)) ≡ true) → scan n i ws ≡ cond (eqb (i + k) n) Good (scan n (i + k) (drop k ws))
+good-words n i zero ws more few long good = rw (add-zero, ne-eqb i n (λ q. omega arith))
+good-words n i (suc k) [] more few long good = absurd (not-suc-le-zero long)
+good-words n i (suc k) (w ∷ ws) more few long good = scan-word n i w ws (rw add-zero at (good 0 (zero-lt-suc k))) ∙ go (eqb (suc i) n) refl (good-words n (suc i) k ws)
   where
     next : (j : ℕ) → suc i + j ≡ i + suc j
     next j = omega arith
 
-    go : (t : Bool) → eqb (suc i) n ≡ t → (suc i < n → suc i + length gs ≤ n → ((j : ℕ) → j < length gs → isGood (faultAt n (suc i + j) (getD gs j 0)) ≡ true) → scan n (suc i) (gs ++ rest) ≡ cond (eqb (suc i + length gs) n) Good (scan n (suc i + length gs) rest)) → cond (eqb (suc i) n) Good (scan n (suc i) (gs ++ rest)) ≡ cond (eqb (i + suc (length gs)) n) Good (scan n (i + suc (length gs)) rest)
-    go true e ih = rw (e, eq-eqb (i + suc (length gs)) n (omega (arith, eqb-true (suc i) n e)))
-    go false e ih = rw e (rw next at (ih (omega (arith, eqb-false (suc i) n e)) (omega arith) (λ j h. rw (next j) (good (suc j) (suc-le-suc h)))))
+    go : (t : Bool) → eqb (suc i) n ≡ t → (suc i < n → suc i + k ≤ n → k ≤ length ws → ((j : ℕ) → j < k → isGood (faultAt n (suc i + j) (getD ws j 0)) ≡ true) → scan n (suc i) ws ≡ cond (eqb (suc i + k) n) Good (scan n (suc i + k) (drop k ws))) → cond (eqb (suc i) n) Good (scan n (suc i) ws) ≡ cond (eqb (i + suc k) n) Good (scan n (i + suc k) (drop k ws))
+    go true e ih = rw (e, eq-eqb (i + suc k) n (omega (arith, eqb-true (suc i) n e)))
+    go false e ih = rw e (rw next at (ih (omega (arith, eqb-false (suc i) n e)) (omega arith) (omega arith) (λ j h. rw (next j) (good (suc j) (suc-le-suc h)))))
 
--- good words that are fewer than n leave it to the words after them
-pub scan-past : (n i : ℕ) (gs rest : List ℕ) → i + length gs < n → ((j : ℕ) → j < length gs → isGood (faultAt n (i + j) (getD gs j 0)) ≡ true) → scan n i (gs ++ rest) ≡ scan n (i + length gs) rest
-scan-past n i gs rest few good = good-words n i gs rest (omega arith) (omega arith) good ∙ rw (ne-eqb (i + length gs) n (λ q. omega arith))
+module _ (w : Widths) (ws : List ℕ) where
+  -- fewer good words than are wanted leave it to the words after them
+  scan-past : (p : ℕ) → p ≤ length ws → p < wanted w ws → GoodBelow w ws p → scan (wanted w ws) 0 ws ≡ scan (wanted w ws) p (drop p ws)
+  scan-past p there inside good =
+      let n : ℕ = wanted w ws in
+      simp zero-add at (good-words n 0 p ws) (omega arith) (omega arith) there good
+      ∙ ap (λ (t : Bool). cond t Good (scan n p (drop p ws))) (ne-eqb p n (λ q. omega arith))
 
--- each of the words is good at its place
-abbrev pub GoodWords : ℕ → List ℕ → Type 0
-GoodWords n gs = (j : ℕ) → j < length gs → isGood (faultAt n j (getD gs j 0)) ≡ true
+  -- "The first bad word decides", whatever comes after it
+  pub first-bad-decides : (p : ℕ) → Reached w ws p → isGood (faultIn w ws p) ≡ false → readPart w ws .number ≡ verdictNumber (faultIn w ws p)
+  first-bad-decides p r bad =
+      let n : ℕ = wanted w ws in
+      reads-number w ws
+      ∙ ap verdictNumber
+      (scan-past p (omega (arith, r .there)) (r .inside) (r .before)
+      ∙ ap (scan n p) (drop-cons ws p 0 (r .there))
+      ∙ scan-word n p (getD ws p 0) (drop (suc p) ws) bad)
 
--- "The first bad word decides": fewer than n good words, then a bad one, then anything
-pub first-bad-decides : (n : ℕ) (gs : List ℕ) (w : ℕ) (rest : List ℕ) → GoodWords n gs → length gs < n → isGood (faultAt n (length gs) w) ≡ false → scan n 0 (gs ++ (w ∷ rest)) ≡ faultAt n (length gs) w
-first-bad-decides n gs w rest good few bad = simp zero-add at (scan-past n 0 gs (w ∷ rest)) few good ∙ scan-word n (length gs) w rest bad
+  -- "20 the words so far are good but unfinished"
+  pub unfinished-20 : length ws < wanted w ws → GoodBelow w ws (length ws) → readPart w ws .number ≡ 20
+  unfolding scan
+  unfinished-20 few good =
+      let n : ℕ = wanted w ws in
+      reads-number w ws ∙ ap verdictNumber (scan-past (length ws) (omega arith) few good ∙ ap (scan n (length ws)) (drop-length ws))
 
--- "20 the words so far are good but unfinished (an empty part too)": fewer than n good words, and nothing more
-pub unfinished-20 : (n : ℕ) (gs : List ℕ) → GoodWords n gs → length gs < n → scan n 0 gs ≡ Unfinished
-unfolding scan
-unfinished-20 n gs good few = ap (scan n 0) (sym (append-nil gs)) ∙ simp zero-add at (scan-past n 0 gs []) few good
-
--- "Words after the sample aren't looked at": n good words, then anything
-pub rest-not-looked-at : (n : ℕ) (gs rest : List ℕ) → GoodWords n gs → length gs ≡ n → 0 < n → scan n 0 (gs ++ rest) ≡ Good
-rest-not-looked-at n gs rest good all some = simp zero-add at (good-words n 0 gs rest) some (omega arith) good ∙ rw (eq-eqb (length gs) n all)
+  -- as many good words as are wanted are a sample
+  pub whole-0 : wanted w ws ≤ length ws → GoodBelow w ws (wanted w ws) → readPart w ws .number ≡ 0
+  whole-0 enough good =
+      let n : ℕ = wanted w ws in
+      reads-number w ws
+      ∙ ap verdictNumber
+      (simp zero-add at (good-words n 0 n ws) (omega arith) (omega arith) enough good
+      ∙ ap (λ (t : Bool). cond t Good (scan n n (drop n ws))) (eq-eqb n n refl))
 
 -- the three cases, which have these three answers
-pub data Part (n : ℕ) : List ℕ → Type 0 where
-  broken : (gs : List ℕ) (w : ℕ) (rest : List ℕ) → GoodWords n gs → length gs < n → isGood (faultAt n (length gs) w) ≡ false → Part n (gs ++ (w ∷ rest))
-  unfinished : (gs : List ℕ) → GoodWords n gs → length gs < n → Part n gs
-  whole : (gs rest : List ℕ) → GoodWords n gs → length gs ≡ n → Part n (gs ++ rest)
+pub data Part (w : Widths) (ws : List ℕ) : Type 0 where
+  broken : (p : ℕ) → Reached w ws p → isGood (faultIn w ws p) ≡ false → Part w ws
+  unfinished : length ws < wanted w ws → GoodBelow w ws (length ws) → Part w ws
+  whole : wanted w ws ≤ length ws → GoodBelow w ws (wanted w ws) → Part w ws
 
-one-more : (n w : ℕ) (gs : List ℕ) → GoodWords n gs → isGood (faultAt n (length gs) w) ≡ true → GoodWords n (gs ++ (w ∷ []))
-one-more n w gs good here j h = go (ltb j (length gs)) refl
+one-more : (w : Widths) (ws : List ℕ) (p : ℕ) → GoodBelow w ws p → isGood (faultIn w ws p) ≡ true → GoodBelow w ws (suc p)
+one-more w ws p good here j h = go (ltb j p) refl
   where
-    go : (t : Bool) → ltb j (length gs) ≡ t → isGood (faultAt n j (getD (gs ++ (w ∷ [])) j 0)) ≡ true
-    go true e = rw (List·getD-append gs (w ∷ []) 0 j (ltb-true j (length gs) e)) (good j (ltb-true j (length gs) e))
-    go false e =
-        let last : j ≡ length gs + 0 = omega (arith, ltb-false j (length gs) e, length-append gs (w ∷ [])) in
-        rw (last, getD-append-add gs (w ∷ []) 0 0, add-zero) here
+    go : (t : Bool) → ltb j p ≡ t → isGood (faultIn w ws j) ≡ true
+    go true e = good j (ltb-true j p e)
+    go false e = let last : p ≡ j = omega (arith, ltb-false j p e) in subst (λ (k : ℕ). isGood (faultIn w ws k) ≡ true) last here
 
-parts : (n : ℕ) (gs ws : List ℕ) → GoodWords n gs → length gs < n → Part n (gs ++ ws)
-parts n gs [] good few = rw append-nil (unfinished gs good few)
-parts n gs (w ∷ ws) good few = go (isGood (faultAt n (length gs) w)) refl (eqb (suc (length gs)) n) refl (parts n (gs ++ (w ∷ [])) ws)
+parts : (w : Widths) (ws : List ℕ) (m p : ℕ) → p + m ≡ length ws → p < wanted w ws → GoodBelow w ws p → Part w ws
+parts w ws zero p e inside good = let all : p ≡ length ws = omega arith in unfinished (omega arith) (subst (GoodBelow w ws) all good)
+parts w ws (suc m) p e inside good = go (isGood (faultIn w ws p)) refl (eqb (suc p) (wanted w ws)) refl (parts w ws m (suc p))
   where
-    size : length (gs ++ (w ∷ [])) ≡ suc (length gs)
-    size = length-append gs (w ∷ []) ∙ add-one (length gs)
+    go : (g : Bool) → isGood (faultIn w ws p) ≡ g → (t : Bool) → eqb (suc p) (wanted w ws) ≡ t → (suc p + m ≡ length ws → suc p < wanted w ws → GoodBelow w ws (suc p) → Part w ws) → Part w ws
+    go false here t q more = broken p (record { there = omega arith; inside = inside; before = good }) here
+    go true here true q more =
+        let all : suc p ≡ wanted w ws = eqb-true (suc p) (wanted w ws) q in
+        whole (omega arith) (subst (GoodBelow w ws) all (one-more w ws p good here))
+    go true here false q more = more (omega arith) (omega (arith, eqb-false (suc p) (wanted w ws) q)) (one-more w ws p good here)
 
-    go : (g : Bool) → isGood (faultAt n (length gs) w) ≡ g → (t : Bool) → eqb (suc (length gs)) n ≡ t → (GoodWords n (gs ++ (w ∷ [])) → length (gs ++ (w ∷ [])) < n → Part n ((gs ++ (w ∷ [])) ++ ws)) → Part n (gs ++ (w ∷ ws))
-    go false e t p more = broken gs w ws good few e
-    go true e true p more = rw append-snoc at (whole (gs ++ (w ∷ [])) ws (one-more n w gs good e) (size ∙ eqb-true (suc (length gs)) n p))
-    go true e false p more = rw append-snoc at (more (one-more n w gs good e) (omega (arith, size, eqb-false (suc (length gs)) n p)))
+-- every part is in one of them
+pub one-of-three : (w : Widths) (ws : List ℕ) → Part w ws
+one-of-three w ws = parts w ws (length ws) 0 (zero-add (length ws)) (omega arith) (λ j h. absurd (not-suc-le-zero h))
 
--- every part is in one of them, with as many words as its header wants
-pub one-of-three : (w : Widths) (ws : List ℕ) → Part (wanted w ws) ws
-one-of-three w ws = parts (wanted w ws) [] ws (λ j h. absurd (not-suc-le-zero h)) (omega arith)
+-- ---- the reader's numbers, each exactly in its case
+
+number-good : (v : Verdict) → isGood v ≡ eqb (verdictNumber v) 0
+number-good Good = refl
+number-good Unfinished = refl
+number-good TooLarge = refl
+number-good Parity = refl
+number-good Header = refl
+number-good Mark = refl
+
+module _ (w : Widths) (ws : List ℕ) where
+  -- 0, a sample: as many good words as are wanted
+  pub reads-0 : readPart w ws .number ≡ 0 ↔ ((wanted w ws ≤ length ws) × GoodBelow w ws (wanted w ws))
+  reads-0 = (λ e. go e (one-of-three w ws), λ h. whole-0 w ws (h .0) (h .1))
+    where
+      go : readPart w ws .number ≡ 0 → Part w ws → (wanted w ws ≤ length ws) × GoodBelow w ws (wanted w ws)
+      go e (broken p r bad) =
+          absurd
+          (eqb-false (verdictNumber (faultIn w ws p)) 0 (sym (number-good (faultIn w ws p)) ∙ bad) (sym (first-bad-decides w ws p r bad) ∙ e))
+      go e (unfinished few good) = absurd (eqb-false 20 0 refl (sym (unfinished-20 w ws few good) ∙ e))
+      go e (whole enough good) = (enough, good)
+
+  -- 20: all words of the part are good, and fewer than are wanted
+  pub reads-20 : readPart w ws .number ≡ 20 ↔ ((length ws < wanted w ws) × GoodBelow w ws (length ws))
+  reads-20 = (λ e. go e (one-of-three w ws), λ h. unfinished-20 w ws (h .0) (h .1))
+    where
+      go : readPart w ws .number ≡ 20 → Part w ws → (length ws < wanted w ws) × GoodBelow w ws (length ws)
+      go e (broken p r bad) =
+          absurd
+          (eqb-false (verdictNumber (faultIn w ws p)) 20 (fault-numbers (wanted w ws) p (getD ws p 0) .0) (sym (first-bad-decides w ws p r bad) ∙ e))
+      go e (unfinished few good) = (few, good)
+      go e (whole enough good) = absurd (eqb-false 0 20 refl (sym (whole-0 w ws enough good) ∙ e))
+
+  -- any other number k: a word with no bad one before it, of which the test of k holds
+  reads-fault : (k : ℕ) (test : ℕ → Bool) → eqb 0 k ≡ false → eqb 20 k ≡ false → ((p : ℕ) → eqb (verdictNumber (faultIn w ws p)) k ≡ test p) → readPart w ws .number ≡ k ↔ ((p : ℕ) × Reached w ws p × (test p ≡ true))
+  reads-fault k test not0 not20 given = (λ e. go e (one-of-three w ws), back)
+    where
+      go : readPart w ws .number ≡ k → Part w ws → (p : ℕ) × Reached w ws p × (test p ≡ true)
+      go e (broken p r bad) =
+          (p, r, sym (given p) ∙ eq-eqb (verdictNumber (faultIn w ws p)) k (sym (first-bad-decides w ws p r bad) ∙ e))
+      go e (unfinished few good) = absurd (eqb-false 20 k not20 (sym (unfinished-20 w ws few good) ∙ e))
+      go e (whole enough good) = absurd (eqb-false 0 k not0 (sym (whole-0 w ws enough good) ∙ e))
+
+      back : ((p : ℕ) × Reached w ws p × (test p ≡ true)) → readPart w ws .number ≡ k
+      back h =
+          let v : Verdict = faultIn w ws (h .0) in
+          let here : verdictNumber v ≡ k = eqb-true (verdictNumber v) k (given (h .0) ∙ h .2) in
+          let bad : isGood v ≡ false = number-good v ∙ ne-eqb (verdictNumber v) 0 (λ q. eqb-false 0 k not0 (sym q ∙ here)) in
+          first-bad-decides w ws (h .0) (h .1) bad ∙ here
+
+  -- 21: the first bad word is above 1023
+  pub reads-21 : readPart w ws .number ≡ 21 ↔ ((p : ℕ) × Reached w ws p × (tooLarge (getD ws p 0) ≡ true))
+  reads-21 = reads-fault 21 _ refl refl (λ p. fault-numbers (wanted w ws) p (getD ws p 0) .1)
+
+  -- 22: not so, but it has an even number of ones
+  pub reads-22 : readPart w ws .number ≡ 22 ↔ ((p : ℕ) × Reached w ws p × ((not (tooLarge (getD ws p 0)) && not (oddOnes (getD ws p 0))) ≡ true))
+  reads-22 = reads-fault 22 _ refl refl (λ p. fault-numbers (wanted w ws) p (getD ws p 0) .2)
+
+  -- 23: neither, but it is the first word and has header bits 5 to 7 set
+  pub reads-23 : readPart w ws .number ≡ 23 ↔ ((p : ℕ) × Reached w ws p × ((not (tooLarge (getD ws p 0)) && (oddOnes (getD ws p 0) && (eqb p 0 && leb 32 (byteOf (getD ws p 0))))) ≡ true))
+  reads-23 = reads-fault 23 _ refl refl (λ p. fault-numbers (wanted w ws) p (getD ws p 0) .3)
+
+  -- 24: none of these, but the end mark is missing on the sample's last word or set on another
+  pub reads-24 : readPart w ws .number ≡ 24 ↔ ((p : ℕ) × Reached w ws p × ((not (tooLarge (getD ws p 0)) && (oddOnes (getD ws p 0) && (not (eqb p 0 && leb 32 (byteOf (getD ws p 0))) && cond (eqb (suc p) (wanted w ws)) (not (marked (getD ws p 0))) (marked (getD ws p 0))))) ≡ true))
+  reads-24 = reads-fault 24 _ refl refl (λ p. fault-numbers (wanted w ws) p (getD ws p 0) .4)
+
+-- "(an empty part too)"
+pub empty-20 : (w : Widths) → readPart w [] .number ≡ 20
+empty-20 w = unfinished-20 w [] (omega arith) (λ j h. absurd (not-suc-le-zero h))
+
+-- "Words after the sample aren't looked at": with any others behind the sample's own the whole answer is the same
+pub rest-not-looked-at : (w : Widths) (ws rest : List ℕ) → readPart w ws .number ≡ 0 → readPart w (take (readPart w ws .count) ws ++ rest) ≡ readPart w ws
+rest-not-looked-at w ws rest taken =
+    let s : Sample = readPart w ws .sample in
+    let size : readPart w ws .count ≡ sampleLength w (resource (s .header)) = accepted-count w ws taken .0 in
+    ap (λ (l : List ℕ). readPart w (l ++ rest)) (accepted-words w ws taken)
+    ∙ read-written w s rest (accepted-writable w ws taken)
+    ∙ (λ i. record { sample = s; count = sym size i; number = sym taken i })

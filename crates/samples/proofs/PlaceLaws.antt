@@ -25,7 +25,7 @@ use Rattle.samples.proofs.Spread.{spread-each}
 use Rattle.samples.proofs.Theorems.{accepted-words, accepted-writable}
 
 -- bit 3 is set exactly where the low four bits are at least 8
-resource-number : (h : ℕ) → resource h ≡ leb 8 (h % 16)
+pub resource-number : (h : ℕ) → resource h ≡ leb 8 (h % 16)
 resource-number h = go (resource h) refl
   where
     go : (t : Bool) → resource h ≡ t → resource h ≡ leb 8 (h % 16)

@@ -1,19 +1,20 @@
--- Demand 2 of samples and words, for all widths of Timestamp and user data: reading a written sample gives it back, and words that are
--- accepted are what writing their sample gives. Assumes nothing.
+-- Demand 2 of samples and words, for all widths of Timestamp and user data: reading a written sample gives it back, words that are
+-- accepted are what writing their sample gives, and each place of the writer's buffer is told. Assumes nothing.
 use Prim.Native.Nat.{ℕ, zero, suc, _+_, _-_, _≤_, _<_, _%_}
-use native.Mathlib.Nat.{zero-add, mod-eq-of-lt, lt-trans, suc-ne-zero}
+use native.Mathlib.Nat.{add-sub-of-le, zero-add, mod-eq-of-lt, lt-trans, suc-ne-zero}
 use native.Mathlib.Omega.{arith}
-use mathlib.Core.Path.{_≡_, refl, sym, ap, _∙_, subst}
+use mathlib.Core.Path.{_≡_, refl, sym, ap, ap₂, _∙_, subst}
 use mathlib.Core.Bool.{Bool, true, false, cond, _&&_, _||_, false≢true}
 use mathlib.Core.List.{List, [], _∷_, _++_, map, map-append}
-use lib.Dec.{ltb, lit<}
-use lib.ListN.{length, getD, take, drop, replicate, length-map}
-use borrow.Author.Tests.{lt-leb, leb-false, lt-ltb}
+use lib.Dec.{eqb, leb, ltb, lit<}
+use lib.ListN.{length, getD, take, drop, replicate, length-append, length-drop, length-map, List·getD-append}
+use lib.Seq.{getD-append-add, getD-drop, getD-take, take-all}
+use borrow.Author.Tests.{lt-leb, leb-false, leb-true, lt-ltb, ltb-false, ltb-true}
 use Rattle.words.specs.Bytes.{lowBytes, number}
 use Rattle.words.specs.Word.{wordsOf, isLast, byteOf}
 use Rattle.words.proofs.WordLaws.{words-bytes, word-byte}
 use Rattle.samples.specs.Layout.{Widths, fieldWidths, counterWidths, counterBytes, fieldBytes, sampleBytes, sampleWords, sampleLength, resource, spread, total}
-use Rattle.samples.specs.Write.{within, allZero, writable}
+use Rattle.samples.specs.Write.{Row, allZero, row, within, writable, writeAnswer, writeBuffer}
 use Rattle.samples.specs.Read.{Found, foundBy, gather, isGood, readPart, sampleOf, scan, wanted}
 use Rattle.samples.specs.declared.sample.Sample.{Sample}
 use Rattle.samples.specs.declared.reader.Verdict.{Verdict}
@@ -21,7 +22,8 @@ use Rattle.samples.specs.declared.reader.Verdict.the-variants.{Good, Unf
 use Rattle.samples.proofs.Gather.{within-gather}
 use Rattle.samples.proofs.ReadLaws.{header-byte, map-below, drop-below, read-good, scan-enough}
 use Rattle.samples.proofs.RoundTrip.{bytes-back, first-passed, header-fit, sample-back, scan-words, scan-written, sixteen-fit}
-use Rattle.samples.proofs.SampleLaws.{bytes-below, bytes-length}
+use Rattle.samples.proofs.SampleLaws.{bytes-below, bytes-length, sample-length}
+use Rattle.samples.proofs.WriteLaws.{wrote, wrote-short, wrote-unfit}
 
 -- the header's byte comes first
 rest-of : Widths → Sample → List ℕ
@@ -146,3 +148,73 @@ module _ (w : Widths) (ws : List ℕ) (taken : readPart w ws .number ≡ 0) wher
   -- 3. Every accepted sample is one the writer takes (1 has that every sample the writer takes is accepted).
   pub accepted-writable : writable w (readPart w ws .sample) ≡ true
   accepted-writable = subst (λ (r : Found). writable w (r .sample) ≡ true) (sym accepted) given-writable
+
+-- the writer's buffer, in all cases: c words of the sample, then what was there
+abbrev Wrote : Widths → Sample → List ℕ → ℕ → Type 0
+Wrote w s out c = (writeBuffer w s out ≡ take c (sampleWords w s) ++ drop c out) × (length (take c (sampleWords w s)) ≡ c) × (c ≤ length out)
+
+module _ (w : Widths) (s : Sample) (out : List ℕ) where
+  -- where c is the count of the answer
+  wrote-count : Wrote w s out (writeAnswer w s (length out) .count)
+  wrote-count = go (writable w s) refl (leb (sampleLength w (resource (s .header))) (length out)) refl
+    where
+      n : ℕ
+      n = sampleLength w (resource (s .header))
+
+      counted : {r : Row} → r ≡ writeAnswer w s (length out) → Wrote w s out (r .count) → Wrote w s out (writeAnswer w s (length out) .count)
+      counted e = subst (λ (r : Row). Wrote w s out (r .count)) e
+
+      go : (fit : Bool) → writable w s ≡ fit → (room : Bool) → leb n (length out) ≡ room → Wrote w s out (writeAnswer w s (length out) .count)
+      go false e room q = let p = wrote-unfit w s out e in counted (p .0) (sym (p .1), refl, omega arith)
+      go true e false q = let p = wrote-short w s out n refl e (leb-false n (length out) q) in counted (p .0) (sym (p .1), refl, omega arith)
+      go true e true q =
+          let room : n ≤ length out = leb-true n (length out) q in
+          let p = wrote w s out n refl e room in
+          let long : length (sampleWords w s) ≡ n = sample-length w s (sixteen-fit w s e) in
+          let whole : take n (sampleWords w s) ≡ sampleWords w s = take-all n (sampleWords w s) (omega (arith, long)) in
+          counted (p .0) (sym (p .1) ∙ ap (λ (l : List ℕ). l ++ drop n out) (sym whole), ap length whole ∙ long, room)
+
+  -- 4. Each place of the buffer after writing, in all cases: word p of the sample for p below the count of words written, else what was
+  -- there: "the rest untouched".
+  pub written-places : (p : ℕ) → getD (writeBuffer w s out) p 0 ≡ cond (ltb p (writeAnswer w s (length out) .count)) (getD (sampleWords w s) p 0) (getD out p 0)
+  written-places p = ap (λ (l : List ℕ). getD l p 0) (wrote-count .0) ∙ sides (ltb p c) refl
+    where
+      c : ℕ
+      c = writeAnswer w s (length out) .count
+
+      front : List ℕ
+      front = take c (sampleWords w s)
+
+      sides : (below : Bool) → ltb p c ≡ below → getD (front ++ drop c out) p 0 ≡ cond below (getD (sampleWords w s) p 0) (getD out p 0)
+      sides true q =
+          let here : p < c = ltb-true p c q in
+          List·getD-append front (drop c out) 0 p (subst (λ (m : ℕ). p < m) (sym (wrote-count .1)) here) ∙ getD-take c (sampleWords w s) p 0 here
+      sides false q =
+          let after : c ≤ p = ltb-false p c q in
+          let past : length front + (p - c) ≡ p = ap (λ (m : ℕ). m + (p - c)) (wrote-count .1) ∙ add-sub-of-le after in
+          ap (λ (m : ℕ). getD (front ++ drop c out) m 0) (sym past)
+          ∙ getD-append-add front (drop c out) (p - c) 0
+          ∙ getD-drop c out (p - c) 0
+          ∙ ap (λ (m : ℕ). getD out m 0) (add-sub-of-le after)
+
+  -- and it has as many places as before
+  pub written-length : length (writeBuffer w s out) ≡ length out
+  written-length =
+      let c : ℕ = writeAnswer w s (length out) .count in
+      ap length (wrote-count .0)
+      ∙ length-append (take c (sampleWords w s)) (drop c out)
+      ∙ ap₂ (λ (a b : ℕ). a + b) (wrote-count .1) (length-drop c out)
+      ∙ add-sub-of-le (wrote-count .2)
+
+  -- "refuses, with 0 and nothing written"
+  pub refused-untouched : eqb (writeAnswer w s (length out) .number) 0 ≡ false → (writeAnswer w s (length out) .count ≡ 0) × (writeBuffer w s out ≡ out)
+  unfolding writeAnswer writeBuffer
+  refused-untouched e = go (writable w s) (leb (sampleLength w (resource (s .header))) (length out)) e
+    where
+      n : ℕ
+      n = sampleLength w (resource (s .header))
+
+      go : (fit room : Bool) → eqb (cond fit (cond room (row 0 n) (row 18 0)) (row 17 0) .number) 0 ≡ false → (cond fit (cond room (row 0 n) (row 18 0)) (row 17 0) .count ≡ 0) × (cond fit (cond room (sampleWords w s ++ drop n out) out) out ≡ out)
+      go true true q = absurd (false≢true (sym q))
+      go true false q = (refl, refl)
+      go false room q = (refl, refl)
