@@ -14,7 +14,7 @@ abbrev pub bytesOf : Turn → List ℕ → List ℕ
 bytesOf t input = take (t .size) input
 
 -- from the turn and the buffer before to those after: the part of a record that waited stands before what came, nothing at the end of the
--- input; what is due of both was run on the chip, and its lines are what the text's buffer holds, which is written
+-- input; what is due of both was run on the chip, and its lines are the bytes of the text's buffer that were handed to the write
 pub record Turned (before after : Turn) (input₀ input text : List ℕ) : Type 0 where
   pub came : List ℕ
   pub fits : after .size ≤ length input

@@ -11,7 +11,7 @@ ghost use lib.ListN.{drop, length, take};
 ghost use Rattle.script.specs.Run.{due, dueSize, inputChip, inputText, recordCount, wholeSize};
 ghost use Rattle.bench.specs.Turn.{Turned};
 
-// What stands between two reads: the chip; how many bytes of the input's buffer have come, and of the text's are its answers; whether
+// What stands between two reads: the chip; how many bytes of the input's buffer have come, and of the text's were handed to the write; whether
 // the input has ended; whether a call has failed.
 struct Turn {
     chip: Chip,
@@ -26,6 +26,12 @@ struct Come {
     size: usize,
     ended: bool,
     failed: bool,
+}
+
+// How many bytes were handed to a write, and whether it went well.
+struct Shown {
+    size: usize,
+    fine: bool,
 }
 
 fn main() {
@@ -70,9 +76,9 @@ fn pass(turn: Turn, input: &mut [u8], text: &mut [u8]) -> Turn
     Turn {
         chip,
         size,
-        written,
+        written: shown.size,
         ended: come.ended,
-        failed: come.failed | !shown,
+        failed: come.failed | !shown.fine,
     }
 }
 
@@ -164,11 +170,17 @@ fn run_all(chip: Chip, input: &[u8], text: &mut [u8]) -> Block
     run_block(chip, input, text)
 }
 
-// Writes the first bytes of a text to standard output, and says whether that went well.
-fn show(text: &[u8], size: usize) -> bool
+// Writes the first bytes of a text to standard output.
+fn show(text: &[u8], size: usize) -> Shown
     requires { ⌜ size ≤ length (now text) ⌝ }
+    ensures { λ r. ⌜ r .size ≡ size ⌝ }
 {
-    checked(io::write_all(STDOUT_FILENO, &text[..size]))
+    let lines = &text[..size];
+    let fine = checked(io::write_all(STDOUT_FILENO, lines));
+    Shown {
+        size: lines.len(),
+        fine,
+    }
 }
 
 // Names a write that failed.

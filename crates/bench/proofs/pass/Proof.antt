@@ -27,19 +27,19 @@ same-length-2 c = search needs
 
 returns : tie.Need-returns
 returns c =
-    let a = c .before .before .before .before .before .before .before .before .before .before .before .before .before .before .before .before .before .before .before .args in
+    let a = c .before .before .before .before .before .before .before .before .before .before .before .before .before .before .before .before .before .before .before .before .args in
     let before : List ℕ = a .input .now in
-    let read = c .before .before .before .before .before .before .before .before .before .before .before .read-behind in
-    let kept = c .before .before .before .before .before .before .before .before .before .before .before .before .before .before .before .keep in
+    let read = c .before .before .before .before .before .before .before .before .before .before .before .before .read-behind in
+    let kept = c .before .before .before .before .before .before .before .before .before .before .before .before .before .before .before .before .keep in
     let input : List ℕ = read .last .0 in
-    let done = c .before .before .before .before .before .before .answer .ensures in
+    let done = c .before .before .before .before .before .before .before .answer .ensures in
     record {
       came = drop (kept .result) (take (read .result .size) input);
       fits = read .ensures .1 .0;
-      bytes = bytes-turn (a .turn .size) before (c .before .before .before .before .before .before .before .before .before .before .before .before .before .before .before .before .before .before .before .pre .1 .0) (kept .result) (read .result .size) (kept .last .0) input (kept .ensures .0) (kept .ensures .1) (read .ensures .0) (read .ensures .1 .1 .0);
+      bytes = bytes-turn (a .turn .size) before (c .before .before .before .before .before .before .before .before .before .before .before .before .before .before .before .before .before .before .before .before .pre .1 .0) (kept .result) (read .result .size) (kept .last .0) input (kept .ensures .0) (kept .ensures .1) (read .ensures .0) (read .ensures .1 .1 .0);
       last = λ e. nothing-came (kept .result) (read .result .size) input (read .ensures .1 .0) (read .ensures .1 .1 .1 e);
       chip = done .0;
-      answers = done .1 .0;
+      answers = rw (c .before .before .before .show .ensures) (done .1 .0);
     }
 
 pub pass-spec : {M : Type 1} → statement M

@@ -5,8 +5,8 @@ use lib.Seq.{length-take-le}
 use Rattle.bench.proofs.show.Statement.{statement}
 use Rattle.bench.proofs.show.Tie as tie
 
-slice-aggregate-write-all : tie.Need-slice-aggregate-write-all
-slice-aggregate-write-all c = sym (length-take-le (c .before .before .args .size) (c .before .before .args .text .now) (c .before .before .pre))
+slice-aggregate-lines : tie.Need-slice-aggregate-lines
+slice-aggregate-lines c = sym (length-take-le (c .before .before .args .size) (c .before .before .args .text .now) (c .before .before .pre))
 
 write-all-requires : tie.Need-write-all-requires
 write-all-requires c κs = search needs
@@ -15,8 +15,7 @@ checked-requires : tie.Need-checked-requires
 checked-requires c κs = search needs
 
 returns : tie.Need-returns
-returns c = search needs
+returns c = length-take-le (c .before .before .before .before .args .size) (c .before .before .before .before .args .text .now) (c .before .before .before .before .pre)
 
 pub show-spec : {M : Type 1} → statement M
-show-spec =
-    tie.close (tie.spec slice-aggregate-write-all write-all-requires checked-requires returns)
+show-spec = tie.close (tie.spec slice-aggregate-lines write-all-requires checked-requires returns)
