@@ -1,3 +1,4 @@
+pub mod Kinds
 pub mod Line
 pub mod Record
 pub mod Run

@@ -60,7 +60,9 @@ returns-7 c =
 
 returns-8 : tie.Need-returns-8
 unfolding byKind
-returns-8 c = simp (ne-eqb (c .before .args .kind) 0 (c .match .rest .0 .0 .0 .0 .0 .0 .1), ne-eqb (c .before .args .kind) 1 (c .match .rest .0 .0 .0 .0 .0 .1), ne-eqb (c .before .args .kind) 2 (c .match .rest .0 .0 .0 .0 .1), ne-eqb (c .before .args .kind) 3 (c .match .rest .0 .0 .0 .1), ne-eqb (c .before .args .kind) 4 (c .match .rest .0 .0 .1), ne-eqb (c .before .args .kind) 5 (c .match .rest .0 .1), ne-eqb (c .before .args .kind) 6 (c .match .rest .1))
+returns-8 c =
+    let kind = c .before .args .kind in
+    simp (ne-eqb kind 0 (search needs), ne-eqb kind 1 (search needs), ne-eqb kind 2 (search needs), ne-eqb kind 3 (search needs), ne-eqb kind 4 (search needs), ne-eqb kind 5 (search needs), ne-eqb kind 6 (search needs))
 
 pub by-kind-spec : {M : Type 1} → statement M
 by-kind-spec =
