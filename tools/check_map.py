@@ -9,7 +9,7 @@ Of both pages:
   the names stand in that file.
 
 Of STATEMENTS:
-- It has at most 4,700 words.
+- It has at most 5,000 words.
 - The lines of definitions that it gives for each folder of specs are right.
 - Every must-fail edit stands in one row of the table of edits, with something
   that refuses it; if it changes code alone, with the function that it changes.
@@ -38,7 +38,7 @@ from idle import VERSIONS
 ROOT = os.path.dirname(os.path.dirname(os.path.abspath(__file__)))
 PAGE = "docs/STATEMENTS.md"
 PROGRAMS = "docs/WRONG-PROGRAMS.md"
-MOST_WORDS = 4700
+MOST_WORDS = 5000
 EDITS = "## Edits that must be refused"
 UNTRIED = "No wrong program was tried"
 
