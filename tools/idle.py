@@ -104,6 +104,12 @@ VERSIONS = {
             ('crates/chip/src/control.rt', 'wrapping_add_u32(self.overrun, 1)', 'wrapping_add_u32(self.overrun, 2)'),
             ('crates/chip/specs/Control.antt', '(grown (c .overrun) 1)', '(grown (c .overrun) 2)'),
         ], ['chip', 'marked'], [('history', 'by-fate')]),
+    'buffer_count_invented': (
+        'a buffer send writes its words and returns the Timestamp for their number', [
+            ('crates/chip/src/chip.rt', 'return self.done(sent.count);', 'return self.done(self.stamp);'),
+            ('crates/chip/specs/Chip.antt', 'done (s .count) (withQueue (s .queue) c)', 'done (c .stamp) (withQueue (s .queue) c)'),
+            ('crates/chip/proofs/chip/Chip/send_into/Proof.antt', 'done (r .count) (withQueue (r .queue) s)', 'done (s .stamp) (withQueue (r .queue) s)'),
+        ], [], [('chip', 'fill-single')]),
     'same_word_again': (
         'every field of a sample is 0, so that all words are the same but for the end mark', [
             ('crates/chip/src/chip.rt', 'user: bits % TWO_48,', 'user: bits % 1,'),
