@@ -19,6 +19,7 @@ import time
 
 ROOT = os.path.dirname(os.path.dirname(os.path.abspath(__file__)))
 BENCH = os.path.join(ROOT, "run-bench")
+SIGNALS = (signal.SIGTERM, signal.SIGINT, signal.SIGHUP)
 LONG, SHORT = 60, 0.3  # seconds: to wait for what must come, and to see that nothing comes
 
 passed = 0
@@ -57,11 +58,18 @@ def whole(data):
     return done.stdout
 
 
+def heed_signals():
+    """What a shell starts in the background ignores SIGINT, and so would this program's bench: the test is of one that doesn't."""
+    for number in SIGNALS:
+        signal.signal(number, signal.SIG_DFL)
+
+
 class Talk:
     """A bench that runs beside this program."""
 
     def __init__(self):
-        self.run = subprocess.Popen([BENCH], stdin=subprocess.PIPE, stdout=subprocess.PIPE, stderr=subprocess.PIPE, bufsize=0)
+        pipe = subprocess.PIPE
+        self.run = subprocess.Popen([BENCH], stdin=pipe, stdout=pipe, stderr=pipe, bufsize=0, preexec_fn=heed_signals)
         self.text = b""
 
     def send(self, data):
@@ -151,7 +159,7 @@ def test_errors():
 
 
 def test_signals():
-    for number in (signal.SIGTERM, signal.SIGINT, signal.SIGHUP):
+    for number in SIGNALS:
         talk = Talk()
         check(talk.lines(1), 1, "the heading comes")
         talk.run.send_signal(number)
