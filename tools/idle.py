@@ -64,6 +64,8 @@ VERSIONS = {
             ('crates/queue/src/queue.rt', '        let sent = self.sent;\n        if sent < count {\n            return word(', '        let sent = self.sent % 1;\n        if sent < count {\n            return word('),
             ('crates/queue/specs/Queue.antt', '(firstHeld q))) (q .sent) 0', '(firstHeld q))) (q .sent % 1) 0'),
             ('crates/queue/specs/Queue.antt', 'use Prim.Native.Nat.{ℕ, zero, suc, _+_, _-_}', 'use Prim.Native.Nat.{ℕ, zero, suc, _+_, _-_, _%_}'),
+            ('crates/queue/proofs/QueueLaws.antt', 'use Prim.Native.Nat.{ℕ, zero, suc, _≤_, _<_, min}', 'use Prim.Native.Nat.{ℕ, zero, suc, _%_, _≤_, _<_, min}\nuse native.Mathlib.Omega.{arith}'),
+            ('crates/queue/proofs/QueueLaws.antt', 'sixteen) (q .sent) h) ∙ e)', 'sixteen) (q .sent % 1) (omega arith)) ∙ e)'),
             ('crates/queue/proofs/queue/Queue/next_word/Proof.antt', 'use native.Mathlib.Omega.{arith}', 'use Prim.Native.Nat.{_%_}\nuse native.Mathlib.Omega.{arith}'),
             ('crates/queue/proofs/queue/Queue/next_word/Proof.antt', '(add-one (a .t1 .sent))', '(add-one (a .t1 .sent % 1))'),
             ('crates/queue/proofs/queue/Queue/next_word/Proof.antt', 'sixteen) (a .t1 .sent) (omega arith))', 'sixteen) (a .t1 .sent % 1) (omega arith))'),
@@ -109,7 +111,7 @@ VERSIONS = {
             ('crates/chip/src/chip.rt', 'return self.done(sent.count);', 'return self.done(self.stamp);'),
             ('crates/chip/specs/Chip.antt', 'done (s .count) (withQueue (s .queue) c)', 'done (c .stamp) (withQueue (s .queue) c)'),
             ('crates/chip/proofs/chip/Chip/send_into/Proof.antt', 'done (r .count) (withQueue (r .queue) s)', 'done (s .stamp) (withQueue (r .queue) s)'),
-        ], [], [('chip', 'fill-single')]),
+        ], [], [('chip', 'fill-answer')]),
     'same_word_again': (
         'every field of a sample is 0, so that all words are the same but for the end mark', [
             ('crates/chip/src/chip.rt', 'user: bits % TWO_48,', 'user: bits % 1,'),
@@ -182,6 +184,11 @@ VERSIONS = {
             ('crates/chip/src/chip.rt', 'self.sample_now(resource, line, bits)', 'self.sample_now(resource, 0, bits)'),
             ('crates/chip/specs/Chip.antt', 'queue = pushed (sampleNow resource line bits c)', 'queue = pushed (sampleNow resource 0 bits c)'),
             ('crates/chip/specs/Sent.antt', '(sampleNow resource line bits c)', '(sampleNow resource 0 bits c)'),
+            ('crates/chip/proofs/Bounds.antt', 'let sample : Held = sampleNow r line bits c in', 'let sample : Held = sampleNow r 0 bits c in'),
+            ('crates/chip/proofs/Bounds.antt', 'push-places (sampleNow true line bits c)', 'push-places (sampleNow true 0 bits c)'),
+            ('crates/chip/proofs/Bounds.antt', 'push-places (sampleNow false line bits c)', 'push-places (sampleNow false 0 bits c)'),
+            ('crates/chip/proofs/Words.antt', '(sampleNow r line bits c) (header-small line small r (c .control .lost)) (within-at 4 8 (c .sources) (s .sources) line)', '(sampleNow r 0 bits c) (header-small 0 (omega arith) r (c .control .lost)) (within-at 4 8 (c .sources) (s .sources) 0)'),
+            ('crates/chip/proofs/Words.antt', 'header-kind line small r (c .control .lost)', 'header-kind 0 (omega arith) r (c .control .lost)', 2),
         ], ['chip', 'marked'], [('history', 'by-fate')]),
     'software_events_by_field_01': (
         'field 01 counts software events, 10 external ones', [
