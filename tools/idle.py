@@ -1,8 +1,8 @@
 #!/usr/bin/env python3
-"""idle.py [NAME ..]: idle versions and easy errors, document 01's and one of ours, tried as whole chips.
+"""idle.py [NAME ..]: idle versions and easy errors, document 01's and some of ours, tried as whole chips.
 
-A must-fail edit changes one crate. Here an idle version is made in a copy of the repository: code and definition are changed alike, and
-the proofs that name the changed number or test with them, so that the crates below still prove and only the statement that carries the
+A must-fail edit changes one crate. Here an idle version is made in a copy of the repository: code and definition are changed alike, and the
+proofs that name the changed number, test or order with them, so that the crates below still prove and only the statement that carries the
 weight is left to refuse it. For each version it says which crates are proved and where the first error of the others stands, and it ends
 with exit code 1 if that is not what the table below expects. It takes about a minute for each version and is no part of the gate.
 """
@@ -22,6 +22,23 @@ SENT = (' .bank .shadows', ' .bank .values')
 # what a sample is made of at its trigger
 NOW = 'crates/chip/proofs/chip/Chip/sample_now/Proof.antt'
 
+# where a sample's counters go last first: how they are read, what the changed proofs use, and the laws of `reverse` that were missing
+READ_LAST_FIRST = ('gather counterWidths', 'countersIn')
+USES = ('use Rattle.samples.specs.Layout.{', 'use mathlib.Core.List.{reverse, reverse-reverse}\nuse lib.ListN.{length-reverse}\nuse Rattle.samples.specs.Read.{countersIn}\nuse Rattle.samples.proofs.Gather.{reverse-at, within-reverse}\nuse Rattle.samples.specs.Layout.{')
+REVERSE_LAWS = '''
+pub reverse-at : (xs : List ℕ) (i j : ℕ) → suc (i + j) ≡ length xs → getD (reverse xs) j 0 ≡ getD xs i 0
+reverse-at [] i j e = absurd (omega arith)
+reverse-at (x ∷ xs) zero j e = rw (reverse-cons x xs) (getD-at (reverse xs) x [] 0 j (length-reverse xs ∙ omega arith))
+reverse-at (x ∷ xs) (suc i) j e = rw (reverse-cons x xs) (List·getD-append (reverse xs) (x ∷ []) 0 j (rw length-reverse (omega arith)) ∙ reverse-at xs i j (omega arith))
+
+pub within-reverse : (ns ms xs ys : List ℕ) → within ns xs ≡ true → within (reverseAux ns ms) (reverseAux xs ys) ≡ within ms ys
+unfolding within
+within-reverse [] ms [] ys e = refl
+within-reverse [] ms (x ∷ xs) ys e = absurd (false≢true e)
+within-reverse (n ∷ ns) ms [] ys e = absurd (false≢true e)
+within-reverse (n ∷ ns) ms (x ∷ xs) ys e = within-reverse ns (n ∷ ms) xs (x ∷ ys) (both-right (ltb x (256 ^ n)) (within ns xs) e) ∙ ap (λ (b : Bool). b && within ms ys) (both-left (ltb x (256 ^ n)) (within ns xs) e)
+'''
+
 
 def swapped(number, place, other_number, other_place):
     """Two registers exchange their addresses, in code and definition."""
@@ -32,6 +49,11 @@ def swapped(number, place, other_number, other_place):
         (map_, '(cond (eqb a %d) %s' % (number, place), '(cond (eqb a %d) %s' % (number, other_place)),
         (map_, '(cond (eqb a %d) %s' % (other_number, other_place), '(cond (eqb a %d) %s' % (other_number, place)),
     ]
+
+
+def in_samples(files):
+    """A version's changes, from those of each file of the crate `samples`."""
+    return [('crates/samples/' + name, *texts) for name, changes in files.items() for texts in changes]
 
 
 # name: what it does, its changes (file, old text, new text), the crates that still prove, and the others with the law that refuses;
@@ -204,6 +226,35 @@ VERSIONS = {
             ('crates/counters/proofs/BitLaws.antt', 'mask-due Software′ s i h p q =', 'mask-due Software s i h p q ='),
             ('crates/counters/proofs/switches/Switches/fires/Proof.antt', '(bit (a .self .high) (a .index) && not (bit (a .self .low) (a .index)))', '(not (bit (a .self .high) (a .index)) && bit (a .self .low) (a .index))'),
         ], [], [('counters', 'selects-field')]),
+    'counters_15_to_0': (
+        "a Resource sample's counters are sent and read last first", in_samples({
+            'src/sample.rt': [('counters[i] as u64', 'counters[15 - i] as u64')],
+            'src/reader.rt': [('16 + 4 * i', '76 - 4 * i'), ('specs.Read.{', 'specs.Read.{countersIn, '), READ_LAST_FIRST],
+            'specs/Layout.antt': [('List.{', 'List.{reverse, '), ('spread counterWidths counters', 'spread counterWidths (reverse counters)')],
+            'specs/Read.antt': [('List.{', 'List.{reverse, '), READ_LAST_FIRST, ('-- the sample that', 'abbrev pub countersIn : List ℕ → List ℕ\ncountersIn bs = reverse (gather counterWidths bs)\n\n-- the sample that')],
+            'proofs/Gather.antt': [
+                ('use lib.ListN.{', 'use Prim.Native.Nat.{_+_}\nuse lib.Seq.{getD-at}\nuse mathlib.Core.List.{reverse, reverseAux, reverse-cons}\nuse lib.ListN.{List·getD-append, length-reverse, '),
+                ('(drop n bs) (drop-below n bs h))\n', '(drop n bs) (drop-below n bs h))\n' + REVERSE_LAWS)],
+            'proofs/ReadLaws.antt': [('specs.Read.{', 'specs.Read.{countersIn, '), (*READ_LAST_FIRST, 3)],
+            'proofs/SampleLaws.antt': [USES, ('counterWidths (s .counters)', 'counterWidths (reverse (s .counters))', 4), (')) sixteen', ')) (length-reverse (s .counters) ∙ sixteen)')],
+            'proofs/RoundTrip.antt': [
+                USES, ('(gather counterWidths', '(countersIn', 4), ('spread counterWidths (cond r', 'spread counterWidths (reverse (cond r'), ('(replicate 16 0))) []', '(replicate 16 0)))) []'), ('unfolding counterBytes\n', 'unfolding counterBytes within\n'),
+                ('gather-spread counterWidths (s .counters) rest (parts .1)', 'ap reverse (gather-spread counterWidths (reverse (s .counters)) rest (within-reverse counterWidths [] (s .counters) [] (parts .1))) ∙ reverse-reverse (s .counters)')],
+            'proofs/Theorems.antt': [
+                USES, ('unfolding writable sampleOf gather', 'unfolding writable sampleOf gather within'), ('(resource h) cs', '(resource h) (reverse cs)', 4),
+                ('within-gather counterWidths', 'within-reverse counterWidths [] cs [] (within-gather counterWidths'), ('(map-below ws))) in', '(map-below ws)))) in')],
+            'proofs/PlaceLaws.antt': [
+                USES, ('(s .counters) (p - 16) (zero-lt-suc 3) sixteen', '(reverse (s .counters)) (p - 16) (zero-lt-suc 3) (length-reverse (s .counters) ∙ sixteen)'),
+                ('(getD (s .counters) m 0) n) whole part', '(getD (reverse (s .counters)) m 0) n) whole part ∙ ap (λ (x : ℕ). byteAt x k) (reverse-at (s .counters) (15 - i) i (omega arith))')],
+            'proofs/reader/decode/Proof.antt': [USES, (*READ_LAST_FIRST, 2)],
+            'proofs/reader/counters_of/Proof.antt': [
+                USES, (*READ_LAST_FIRST, 3), ('add-number-at', 'sub-number-at', 4), ('loop-again c =', 'unfolding gather\nloop-again c ='), ('returns c =', 'unfolding gather\nreturns c ='), ('16 + 4 * c', '76 - 4 * c'),
+                ('16 + 4 * i ≡ 16 + i * 4', '76 - 4 * i ≡ 16 + (15 - i) * 4'), ('(i * 4)', '((15 - i) * 4)'), ('(gather-at 4 16 i', '(reverse-at (gather counterWidths (drop 16 bytes)) (15 - i) i (omega arith) ∙ gather-at 4 16 (15 - i)')],
+            'proofs/sample/counter_byte/Proof.antt': [
+                USES, ('_%_,', '_-_, _/_, _%_,'), ('mul-byte-at : ', 'sub-byte-at : tie.Need-sub-byte-at\nsub-byte-at c = search needs\n\nmul-byte-at : '), ('(tie.spec ', '(tie.spec sub-byte-at '),
+                ('(a .t1) (a .place) (zero-lt-suc 3) (search needs)', '(reverse (a .t1)) (a .place) (zero-lt-suc 3) (length-reverse (a .t1) ∙ search needs)', 2),
+                ('needs))\n\n', 'needs) ∙ ap (λ (x : ℕ). byteAt x (a .place % 4)) (reverse-at (a .t1) (15 - a .place / 4) (a .place / 4) (search needs)))\n\n'), ('default (a .t1) 0 (search needs)', 'default (reverse (a .t1)) 0 (rw length-reverse (search needs))')],
+        }), [], [('samples', 'in-counter')]),
 }
 
 
