@@ -19,9 +19,6 @@ ROOT = os.path.dirname(os.path.dirname(os.path.abspath(__file__)))
 # a Resource sample's counters as they are, not as they were copied at its trigger
 SENT = (' .bank .shadows', ' .bank .values')
 
-# what a sample is made of at its trigger
-NOW = 'crates/chip/proofs/chip/Chip/sample_now/Proof.antt'
-
 # where a sample's counters go last first: how they are read, what the changed proofs use, and the laws of `reverse` that were missing
 READ_LAST_FIRST = ('gather counterWidths', 'countersIn')
 USES = ('use Rattle.samples.specs.Layout.{', 'use mathlib.Core.List.{reverse, reverse-reverse}\nuse lib.ListN.{length-reverse}\nuse Rattle.samples.specs.Read.{countersIn}\nuse Rattle.samples.proofs.Gather.{reverse-at, within-reverse}\nuse Rattle.samples.specs.Layout.{')
@@ -125,9 +122,9 @@ VERSIONS = {
         ], ['queue'], [('chip', 'rows-room')]),
     'overruns_counted_twice': (
         'a lost trigger adds two to the Overrun Counter', [
-            ('crates/chip/src/control.rt', 'wrapping_add_u32(self.overrun, 1)', 'wrapping_add_u32(self.overrun, 2)'),
-            ('crates/chip/specs/Control.antt', '(grown (c .overrun) 1)', '(grown (c .overrun) 2)'),
-        ], ['chip', 'marked'], [('history', 'by-fate')]),
+            ('crates/control/src/control.rt', 'wrapping_add_u32(self.overrun, 1)', 'wrapping_add_u32(self.overrun, 2)'),
+            ('crates/control/specs/Control.antt', '(grown (c .overrun) 1)', '(grown (c .overrun) 2)'),
+        ], ['control', 'chip', 'marked'], [('history', 'by-fate')]),
     'buffer_count_invented': (
         'a buffer send writes its words and returns the Timestamp for their number', [
             ('crates/chip/src/chip.rt', 'return self.done(sent.count);', 'return self.done(self.stamp);'),
@@ -139,19 +136,14 @@ VERSIONS = {
             ('crates/chip/src/chip.rt', 'user: bits % TWO_48,', 'user: bits % 1,'),
             ('crates/chip/src/chip.rt', 'stamp: self.stamp % TWO_40,', 'stamp: self.stamp % 1,'),
             ('crates/chip/src/chip.rt', 'source: self.source(line as usize),', 'source: self.source(line as usize) % 1,'),
-            ('crates/chip/src/chip.rt', 'header: line + 8', 'header: line % 1 + 8'),
+            ('crates/control/src/control.rt', 'line as u32 + 8', 'line as u32 % 1 + 8'),
             ('crates/chip/specs/Chip.antt', 'user = bits % 2 ^ 48;', 'user = bits % 1;'),
             ('crates/chip/specs/Chip.antt', 'stamp = c .stamp % 2 ^ 40;', 'stamp = c .stamp % 1;'),
             ('crates/chip/specs/Chip.antt', 'source = getD (c .sources) line 0;', 'source = getD (c .sources) line 0 % 1;'),
-            ('crates/chip/specs/Chip.antt', 'headerOf line resource lost = line + 8', 'headerOf line resource lost = line % 1 + 8'),
-            (NOW, 'user = a .bits % 2 ^ 48; stamp = a .self .stamp % 2 ^ 40; source = c .before .before .source .ensures i;', 'user = a .bits % 1; stamp = a .self .stamp % 1; source = c .before .before .source .ensures i % 1;'),
-            (NOW, 'a .line + 8 * r', 'a .line % 1 + 8 * r'),
-            (NOW, '-t14', '-t16', 4),
-            (NOW, '-t13', '-t15', 4),
-            (NOW, '-t11', '-t13', 4),
-            (NOW, '-t10', '-t12', 4),
+            ('crates/control/specs/Control.antt', 'headerOf line resource lost = line + 8', 'headerOf line resource lost = line % 1 + 8'),
+            ('crates/chip/proofs/chip/Chip/sample_now/Proof.antt', 'user = a .bits % 2 ^ 48; stamp = a .self .stamp % 2 ^ 40; source = c .before .source .ensures i;', 'user = a .bits % 1; stamp = a .self .stamp % 1; source = c .before .source .ensures i % 1;'),
             ('crates/chip/proofs/Words.antt', '(within-at 4 8 (c .sources) (s .sources) line) (omega arith)', '(omega arith) (omega arith)'),
-        ], ['chip'], [('history', 'header-same'), ('marked', 'marked-examples')]),
+        ], ['control', 'chip'], [('history', 'header-same'), ('marked', 'marked-examples')]),
     'waits_and_overruns_exchanged': (
         'addresses 5 and 6 are exchanged', swapped(5, 'Waits', 6, 'Overruns'),
         ['chip', 'marked'], [('history', 'write-kept')]),
@@ -173,34 +165,34 @@ VERSIONS = {
         ], [], [('chip', 'place-trigger')]),
     'even_bit_wins': (
         'where both bits of a CSR pair are 1, the even one wins', [
-            ('crates/chip/src/control.rt', '    if odd {\n        return false;\n    }\n    if even {\n        return true;\n    }\n', '    if even {\n        return true;\n    }\n    if odd {\n        return false;\n    }\n'),
-            ('crates/chip/specs/Control.antt', 'pair even odd before = cond odd false (cond even true before)', 'pair even odd before = cond even true (cond odd false before)'),
-        ], ['chip', 'marked'], [('history', 'pair-turned')]),
+            ('crates/control/src/control.rt', '    if odd {\n        return false;\n    }\n    if even {\n        return true;\n    }\n', '    if even {\n        return true;\n    }\n    if odd {\n        return false;\n    }\n'),
+            ('crates/control/specs/Control.antt', 'pair even odd before = cond odd false (cond even true before)', 'pair even odd before = cond even true (cond odd false before)'),
+        ], ['control', 'chip', 'marked'], [('history', 'pair-turned')]),
     'waits_exchanged': (
         'CSR bits 2 and 3 are read wait, 4 and 5 write wait', [
-            ('crates/chip/src/control.rt', 'self.writewait = pair(bits / 4 % 2 == 1, bits / 8 % 2 == 1,', 'self.writewait = pair(bits / 16 % 2 == 1, bits / 32 % 2 == 1,'),
-            ('crates/chip/src/control.rt', 'self.readwait = pair(bits / 16 % 2 == 1, bits / 32 % 2 == 1,', 'self.readwait = pair(bits / 4 % 2 == 1, bits / 8 % 2 == 1,'),
-            ('crates/chip/specs/Control.antt', '(pair (bit d 2) (bit d 3) (c .writewait))', '(pair (bit d 4) (bit d 5) (c .writewait))'),
-            ('crates/chip/specs/Control.antt', '(pair (bit d 4) (bit d 5) (c .readwait))', '(pair (bit d 2) (bit d 3) (c .readwait))'),
-        ], ['chip', 'marked'], [('history', 'configured-kept')]),
+            ('crates/control/src/control.rt', 'self.writewait = pair(bits / 4 % 2 == 1, bits / 8 % 2 == 1,', 'self.writewait = pair(bits / 16 % 2 == 1, bits / 32 % 2 == 1,'),
+            ('crates/control/src/control.rt', 'self.readwait = pair(bits / 16 % 2 == 1, bits / 32 % 2 == 1,', 'self.readwait = pair(bits / 4 % 2 == 1, bits / 8 % 2 == 1,'),
+            ('crates/control/specs/Control.antt', '(pair (bit d 2) (bit d 3) (c .writewait))', '(pair (bit d 4) (bit d 5) (c .writewait))'),
+            ('crates/control/specs/Control.antt', '(pair (bit d 4) (bit d 5) (c .readwait))', '(pair (bit d 2) (bit d 3) (c .readwait))'),
+        ], ['control', 'chip', 'marked'], [('history', 'configured-kept')]),
     'flags_exchanged': (
         'CSR bit 8 reads as flag 9, bit 9 as flag 8', [
-            ('crates/chip/src/control.rt', '256 * one(self.flagfull) + 512 * one(self.flagbusy)', '512 * one(self.flagfull) + 256 * one(self.flagbusy)'),
-            ('crates/chip/specs/Control.antt', '(256 * one (c .flagfull) + 512 * one (c .flagbusy))', '(512 * one (c .flagfull) + 256 * one (c .flagbusy))'),
-        ], ['chip'], [('history', 'csr-same'), ('marked', 'marked-examples')]),
+            ('crates/control/src/control.rt', '256 * one(self.flagfull) + 512 * one(self.flagbusy)', '512 * one(self.flagfull) + 256 * one(self.flagbusy)'),
+            ('crates/control/specs/Control.antt', '(256 * one (c .flagfull) + 512 * one (c .flagbusy))', '(512 * one (c .flagfull) + 256 * one (c .flagbusy))'),
+        ], ['control', 'chip'], [('history', 'csr-same'), ('marked', 'marked-examples')]),
     'off_and_filtered_exchanged': (
         'reply 6 is "filtered", 7 "sampling is off"', [
-            ('crates/chip/src/reply.rt', 'Reply::Off => 6,', 'Reply::Off => 7,'),
-            ('crates/chip/src/reply.rt', 'Reply::Filtered => 7,', 'Reply::Filtered => 6,'),
-            ('crates/chip/specs/Reply.antt', 'rowOf Off v = record { number = 6;', 'rowOf Off v = record { number = 7;'),
-            ('crates/chip/specs/Reply.antt', 'rowOf Filtered v = record { number = 7;', 'rowOf Filtered v = record { number = 6;'),
-        ], [], [('chip', 'written-trigger')]),
+            ('crates/control/src/reply.rt', 'Reply::Off => 6,', 'Reply::Off => 7,'),
+            ('crates/control/src/reply.rt', 'Reply::Filtered => 7,', 'Reply::Filtered => 6,'),
+            ('crates/control/specs/Reply.antt', 'rowOf Off v = record { number = 6;', 'rowOf Off v = record { number = 7;'),
+            ('crates/control/specs/Reply.antt', 'rowOf Filtered v = record { number = 7;', 'rowOf Filtered v = record { number = 6;'),
+            ('crates/control/proofs/ReplyLaws.antt', 'Off ∷ Filtered ∷ Lost', 'Filtered ∷ Off ∷ Lost'),
+        ], ['control'], [('chip', 'written-trigger')]),
     'lost_mark_never_in_the_header': (
         "a sample's header never has bit 4", [
-            ('crates/chip/src/chip.rt', '16 * one(self.control.lost)', '0 * one(self.control.lost)'),
-            ('crates/chip/specs/Chip.antt', '16 * one lost', '0 * one lost'),
-            (NOW, '+ 16 * l)', '+ 0 * l)'),
-        ], ['chip', 'marked'], [('history', 'header-same')]),
+            ('crates/control/src/control.rt', '16 * one(lost)', '0 * one(lost)'),
+            ('crates/control/specs/Control.antt', '16 * one lost', '0 * one lost'),
+        ], ['control', 'chip', 'marked'], [('history', 'header-same')]),
     'every_sample_of_line_0': (
         "a sample has line 0's number and Source Address, whatever the line", [
             ('crates/chip/src/chip.rt', 'self.sample_now(resource, line, bits)', 'self.sample_now(resource, 0, bits)'),

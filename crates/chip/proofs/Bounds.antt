@@ -19,20 +19,20 @@ use Rattle.queue.specs.Queue.{advanced, busy, insideQueue, nextWord, pushed, se
 use Rattle.queue.specs.declared.queue.Held.{Held}
 use Rattle.queue.specs.declared.queue.Queue.{Queue}
 use Rattle.queue.proofs.BoundLaws.{advance-bounds, advance-places, push-bounds, push-places, send-bounds, send-places}
+use Rattle.control.specs.Control.{waited}
+use Rattle.control.specs.Fate.{Fate, isOff, isFiltered, isLost, isTold, isTaken}
+use Rattle.control.specs.declared.control.Control.{Control}
+use Rattle.control.specs.declared.reply.Reply.the-variants.{Lines, NoWord, Wait, Busy, Outside}
 use Rattle.chip.specs.Chip.{afterTicks, done, externalEvents, fateOf, fresh, inside, lineOf, nodeTicks, oneLine, read, readAt, readCounter, replied, sampleNow, send, sendInto, sendNow, takeSample, timestampTicks, trigger, triggerBy, withBank, withControl, withQueue, withStamp, write, writeAt}
-use Rattle.chip.specs.Control.{waited}
-use Rattle.chip.specs.Fate.{Fate, isOff, isFiltered, isLost, isTold, isTaken}
 use Rattle.chip.specs.Operation.{Operation, opReset, opWrite, opRead, opTicks, opNodes, opEvents, opSend, opFill, step}
 use Rattle.chip.specs.Place.{placeOf}
 use Rattle.chip.specs.Repeat.{repeat}
-use Rattle.chip.specs.Reply.{Told}
 use Rattle.chip.specs.Rows.{checked}
 use Rattle.chip.specs.Shape.{Shaped}
+use Rattle.chip.specs.Told.{Told}
 use Rattle.chip.specs.declared.chip.Chip.{Chip}
-use Rattle.chip.specs.declared.control.Control.{Control}
 use Rattle.chip.specs.declared.place.Place.{Place}
 use Rattle.chip.specs.declared.place.Place.the-variants.{Beyond, Nowhere, Reset, Csr, Timestamp, Filter, Waits, Overruns, Mux, Clear, Enable, Disable, Source, Counter, Trigger}
-use Rattle.chip.specs.declared.reply.Reply.the-variants.{Lines, NoWord, Wait, Busy, Outside}
 use Rattle.chip.proofs.ChipLaws.{by-bounds, inside-by, inside-phase, inside-queue, inside-stamp}
 use Rattle.chip.proofs.Replies.{reply-15}
 use Rattle.chip.proofs.Resets.{reset-record}

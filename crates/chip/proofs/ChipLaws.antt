@@ -6,10 +6,10 @@ use lib.Dec.{ltb}
 use borrow.Author.Tests.{lt-ltb, ltb-true}
 use Rattle.samples.proofs.Gather.{both-left, both-right}
 use Rattle.queue.specs.Queue.{insideQueue}
+use Rattle.control.specs.declared.reply.Reply.the-variants.{Outside}
 use Rattle.chip.specs.Chip.{guarded, inside, replied}
-use Rattle.chip.specs.Reply.{Told}
+use Rattle.chip.specs.Told.{Told}
 use Rattle.chip.specs.declared.chip.Chip.{Chip}
-use Rattle.chip.specs.declared.reply.Reply.the-variants.{Outside}
 
 pub guard-in : (c : Chip) (a : Told) → inside c ≡ true → a ≡ guarded c a
 guard-in c a e = ap (λ (b : Bool). cond b a (replied Outside c)) (sym e)

@@ -5,17 +5,17 @@ use mathlib.Core.Bool.{Bool, true, false, cond, _&&_, false≢true}
 use lib.Dec.{leb, eqb}
 use borrow.Author.Tests.{lt-leb, ne-eqb}
 use Rattle.queue.specs.Queue.{advanced, busy, full, nextWord}
+use Rattle.control.specs.Control.{overran, waited}
+use Rattle.control.specs.Fate.{Fate, isOff, isFiltered, isLost, isTold, isTaken}
+use Rattle.control.specs.declared.reply.Reply.the-variants.{Lines, NoWord, Wait, Busy, Outside}
 use Rattle.chip.specs.Chip.{afterTicks, blocked, done, externalEvents, fateOf, inside, lineOf, nodeTicks, oneLine, read, readAt, readCounter, replied, send, sendInto, sendNow, timestampTicks, trigger, triggerBy, withControl, withQueue, write, writeAt}
-use Rattle.chip.specs.Control.{overran, waited}
-use Rattle.chip.specs.Fate.{Fate, isOff, isFiltered, isLost, isTold, isTaken}
 use Rattle.chip.specs.Operation.{Operation, opReset, opWrite, opRead, opTicks, opNodes, opEvents, opSend, opFill, step}
 use Rattle.chip.specs.Place.{between, placeOf, registerOf}
-use Rattle.chip.specs.Reply.{Told}
 use Rattle.chip.specs.Rows.{refused, resourceHeld, resourceTrigger}
+use Rattle.chip.specs.Told.{Told}
 use Rattle.chip.specs.declared.chip.Chip.{Chip}
 use Rattle.chip.specs.declared.place.Place.{Place}
 use Rattle.chip.specs.declared.place.Place.the-variants.{Beyond, Nowhere, Reset, Csr, Timestamp, Filter, Waits, Overruns, Mux, Clear, Enable, Disable, Source, Counter, Trigger}
-use Rattle.chip.specs.declared.reply.Reply.the-variants.{Lines, NoWord, Wait, Busy, Outside}
 use Rattle.chip.proofs.AddressLaws.{place-test}
 use Rattle.chip.proofs.ChipLaws.{by-bounds}
 use Rattle.chip.proofs.RoomLaws.{rows-busy}

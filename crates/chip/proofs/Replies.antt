@@ -10,19 +10,19 @@ use lib.ListN.{getD}
 use borrow.Author.Tests.{lt-ltb, lt-leb, ne-eqb, ltb-true, ltb-false}
 use Rattle.counters.specs.Bank.{copied}
 use Rattle.queue.specs.Queue.{busy}
+use Rattle.control.specs.Control.{waited}
+use Rattle.control.specs.Fate.{fate}
+use Rattle.control.specs.declared.reply.Reply.the-variants.{Lines, NoWord, Wait, Busy, Outside}
+use Rattle.control.proofs.ReplyLaws.{reply-one}
 use Rattle.chip.specs.Chip.{done, externalEvents, inside, lacksRoom, lineOf, nodeTicks, oneLine, read, readAt, readCounter, replied, send, sendInto, timestampTicks, trigger, triggerBy, withBank, withControl, write, writeAt}
-use Rattle.chip.specs.Control.{waited}
-use Rattle.chip.specs.Fate.{fate}
 use Rattle.chip.specs.Operation.{Operation, opReset, opWrite, opRead, opTicks, opNodes, opEvents, opSend, opFill, step}
 use Rattle.chip.specs.Place.{placeOf, registerOf}
-use Rattle.chip.specs.Reply.{Told, replyNumber, told}
 use Rattle.chip.specs.Rows.{counterAt, mapped, passes, readOnly, row0, row1, row2, row3, row4, row5, row6, row7, row8, row10, row11, row15, triggering, vacant, writeOnly}
+use Rattle.chip.specs.Told.{Told, told}
 use Rattle.chip.specs.declared.chip.Answer.{Answer}
 use Rattle.chip.specs.declared.chip.Chip.{Chip}
 use Rattle.chip.specs.declared.place.Place.{Place}
 use Rattle.chip.specs.declared.place.Place.the-variants.{Trigger}
-use Rattle.chip.specs.declared.reply.Reply.{Reply}
-use Rattle.chip.specs.declared.reply.Reply.the-variants.{Done, TooHigh, Nothing, Forbidden, Lines, NoWord, Off, Filtered, Lost, Wait, Busy, Outside}
 use Rattle.chip.proofs.AddressLaws.{or-rest, place-beyond, place-counter, place-trigger, same, same-eq, upTo-at}
 use Rattle.chip.proofs.ChipLaws.{by-bounds}
 use Rattle.chip.proofs.LineLaws.{one-line}
@@ -235,28 +235,9 @@ module _ (op : Operation) (c : Chip) where
 
 -- ---- "Any two replies allowed by a promise are shown equal"
 
--- the table gives each reply a number of its own
-byNumber : ℕ → Reply
-byNumber n =
-    getD (Done ∷ TooHigh ∷ Nothing ∷ Forbidden ∷ Lines ∷ NoWord ∷ Off ∷ Filtered ∷ Lost ∷ Outside ∷ Wait ∷ Busy ∷ []) n Outside
-
-number-own : (r : Reply) → byNumber (replyNumber r) ≡ r
-unfolding byNumber
-number-own Done = refl
-number-own TooHigh = refl
-number-own Nothing = refl
-number-own Forbidden = refl
-number-own Lines = refl
-number-own NoWord = refl
-number-own Off = refl
-number-own Filtered = refl
-number-own Lost = refl
-number-own Wait = refl
-number-own Busy = refl
-number-own Outside = refl
-
--- so an operation's promise, `told r` equal to a definition, leaves one answer; a lent buffer's is an equation with the whole buffer
+-- an operation's promise, `told r` equal to a definition, leaves one answer, since replies of one number are one reply; a lent buffer's is
+-- an equation with the whole buffer
 pub one-answer : (a b : Answer) → told a ≡ told b → a ≡ b
 one-answer a b e =
-    let reply : a .reply ≡ b .reply = sym (number-own (a .reply)) ∙ ap (λ (t : Told). byNumber (t .number)) e ∙ number-own (b .reply) in
+    let reply : a .reply ≡ b .reply = reply-one (a .reply) (b .reply) (ap (λ (t : Told). t .number) e) in
     λ i. record { chip = e i .chip; value = e i .value; reply = reply i }

@@ -12,12 +12,12 @@ use Rattle.queue.specs.Queue.{advanced, nextWord, sendBuffer, sendMany, sendQue
 use Rattle.queue.specs.declared.queue.Queue.{Queue}
 use Rattle.queue.proofs.CountLaws.{words-all, words-most, words-queue}
 use Rattle.queue.proofs.SendLaws.{send-none, send-suc}
+use Rattle.control.specs.declared.reply.Reply.the-variants.{NoWord, Outside}
 use Rattle.chip.specs.Chip.{done, inside, replied, send, sendInto, sendNow, sentBuffer, withQueue}
 use Rattle.chip.specs.Operation.{opFill, opSend, step}
 use Rattle.chip.specs.Repeat.{given, repeat}
-use Rattle.chip.specs.Reply.{Told}
+use Rattle.chip.specs.Told.{Told}
 use Rattle.chip.specs.declared.chip.Chip.{Chip}
-use Rattle.chip.specs.declared.reply.Reply.the-variants.{NoWord, Outside}
 use Rattle.chip.proofs.Bounds.{keeps-inside}
 use Rattle.chip.proofs.ChipLaws.{guard-in, guard-out}
 

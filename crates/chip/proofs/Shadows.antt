@@ -9,17 +9,17 @@ use lib.ListN.{getD}
 use borrow.Author.Tests.{lt-leb, ne-eqb}
 use Rattle.counters.specs.Bank.{copied}
 use Rattle.queue.specs.Queue.{busy}
+use Rattle.control.specs.Control.{waited}
+use Rattle.control.specs.Fate.{Fate, isOff, isFiltered, isLost, isTold, isTaken}
+use Rattle.control.specs.declared.reply.Reply.the-variants.{Busy, Outside, Wait}
 use Rattle.chip.specs.Chip.{done, externalEvents, fateOf, inside, lineOf, nodeTicks, oneLine, read, readAt, readCounter, replied, send, sendInto, timestampTicks, trigger, triggerBy, withBank, withControl, write, writeAt}
-use Rattle.chip.specs.Control.{waited}
-use Rattle.chip.specs.Fate.{Fate, isOff, isFiltered, isLost, isTold, isTaken}
 use Rattle.chip.specs.Operation.{Operation, opReset, opWrite, opRead, opTicks, opNodes, opEvents, opSend, opFill, step}
 use Rattle.chip.specs.Place.{between, placeOf, registerOf}
-use Rattle.chip.specs.Reply.{Told}
 use Rattle.chip.specs.Rows.{copying, counterAt, resourceHeld}
+use Rattle.chip.specs.Told.{Told}
 use Rattle.chip.specs.declared.chip.Chip.{Chip}
 use Rattle.chip.specs.declared.place.Place.{Place}
 use Rattle.chip.specs.declared.place.Place.the-variants.{Beyond, Nowhere, Reset, Csr, Timestamp, Filter, Waits, Overruns, Mux, Clear, Enable, Disable, Source, Counter, Trigger}
-use Rattle.chip.specs.declared.reply.Reply.the-variants.{Busy, Outside, Wait}
 use Rattle.chip.proofs.AddressLaws.{place-counter, place-test}
 use Rattle.chip.proofs.ChipLaws.{guard-in}
 use Rattle.chip.proofs.RoomLaws.{rows-busy}

@@ -10,13 +10,13 @@ use Rattle.counters.specs.Due.{due, slowEvents, ticked}
 use Rattle.counters.specs.declared.bank.Bank.{Bank}
 use Rattle.counters.specs.declared.switches.Kind.the-variants.{Slow, Node}
 use Rattle.counters.proofs.TickLaws.{counting-none, counting-twice}
+use Rattle.control.specs.declared.reply.Reply.the-variants.{Outside}
 use Rattle.chip.specs.Chip.{afterTicks, done, guarded, inside, nodeTicks, replied, timestampTicks, withBank}
 use Rattle.chip.specs.Operation.{Operation, opNodes, opTicks, step}
 use Rattle.chip.specs.Repeat.{repeat}
-use Rattle.chip.specs.Reply.{Told}
 use Rattle.chip.specs.Shape.{Shaped}
+use Rattle.chip.specs.Told.{Told}
 use Rattle.chip.specs.declared.chip.Chip.{Chip}
-use Rattle.chip.specs.declared.reply.Reply.the-variants.{Outside}
 use Rattle.chip.proofs.Bounds.{keeps-inside, keeps-shaped, repeat-same}
 use Rattle.chip.proofs.ChipLaws.{guard-in, guard-out, inside-phase, inside-stamp}
 use Rattle.chip.proofs.WidthLaws.{within-at}

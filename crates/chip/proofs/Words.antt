@@ -1,7 +1,7 @@
 -- What is sent are the words of the first sample held, one after the other; a trigger with reply 0 takes a sample, and it is one that the
 -- writer takes, so the reader gives it back: its fields are cut to their widths at the trigger. Assumes,
 -- where said, a record inside its bounds with the lists that its types give, and a line below 8.
-use Prim.Native.Nat.{ℕ, _+_, _/_, _%_, _^_, _≤_, _<_}
+use Prim.Native.Nat.{ℕ, _+_, _%_, _^_, _≤_, _<_}
 use native.Mathlib.Omega.{arith}
 use mathlib.Core.Path.{_≡_, refl, sym, ap, _∙_, subst}
 use mathlib.Core.Bool.{Bool, true, false, cond, _&&_, _||_, false≢true}
@@ -9,7 +9,7 @@ use mathlib.Core.List.{List, _++_}
 use lib.Dec.{eqb, leb, ltb}
 use lib.ListN.{drop, length, replicate, take, length-drop}
 use lib.Seq.{length-take-le}
-use borrow.Author.Tests.{eq-eqb, lt-ltb, ne-eqb}
+use borrow.Author.Tests.{lt-ltb}
 use Rattle.samples.specs.Layout.{counterWidths, firstChip, resource, sampleLength, sampleWords}
 use Rattle.samples.specs.Read.{foundBy, readPart}
 use Rattle.samples.specs.Write.{allZero, within, writable}
@@ -22,8 +22,10 @@ use Rattle.queue.specs.Queue.{firstCount, firstHeld, heldSample, sendWords}
 use Rattle.queue.specs.declared.queue.Held.{Held}
 use Rattle.queue.proofs.CountLaws.{words-first}
 use Rattle.queue.proofs.QueueLaws.{held-sixteen}
-use Rattle.chip.specs.Chip.{done, fateOf, headerOf, inside, lineOf, oneLine, replied, sampleNow, takeSample, trigger, triggerBy, write, writeAt}
-use Rattle.chip.specs.Fate.{Fate, isOff, isFiltered, isLost, isTold, isTaken}
+use Rattle.control.specs.Fate.{Fate, isOff, isFiltered, isLost, isTold, isTaken}
+use Rattle.control.specs.declared.reply.Reply.the-variants.{Lines, Outside}
+use Rattle.control.proofs.HeaderLaws.{header-kind, header-small}
+use Rattle.chip.specs.Chip.{done, fateOf, inside, lineOf, oneLine, replied, sampleNow, takeSample, trigger, triggerBy, write, writeAt}
 use Rattle.chip.specs.Place.{placeOf}
 use Rattle.chip.specs.Rows.{oneActive, triggering}
 use Rattle.chip.specs.Sent.{firstWords, takenSample}
@@ -33,7 +35,6 @@ use Rattle.chip.specs.Shape.{Shaped}
 use Rattle.chip.specs.declared.chip.Chip.{Chip}
 use Rattle.chip.specs.declared.place.Place.{Place}
 use Rattle.chip.specs.declared.place.Place.the-variants.{Trigger}
-use Rattle.chip.specs.declared.reply.Reply.the-variants.{Lines, Outside}
 use Rattle.chip.proofs.AddressLaws.{place-trigger}
 use Rattle.chip.proofs.LineLaws.{one-line}
 use Rattle.chip.proofs.Sends.{given-sends}
@@ -54,20 +55,6 @@ module _ (c : Chip) (h : inside c ≡ true) (some : c .queue .held ≡ 0 → ⊥
       ap (λ (n : ℕ). given n opSend c) (sym count) ∙ given-sends k c h ∙ words
 
 -- ---- the sample that a trigger takes
-
--- a header of five bits, and its bit 3
-module _ (line : ℕ) (small : line < 8) where
-  header-small : (r l : Bool) → headerOf line r l < 32
-  header-small true true = omega arith
-  header-small true false = omega arith
-  header-small false true = omega arith
-  header-small false false = omega arith
-
-  pub header-kind : (r l : Bool) → resource (headerOf line r l) ≡ r
-  header-kind true true = eq-eqb (headerOf line true true / 8 % 2) 1 (omega arith)
-  header-kind true false = eq-eqb (headerOf line true false / 8 % 2) 1 (omega arith)
-  header-kind false true = ne-eqb (headerOf line false true / 8 % 2) 1 (λ e. omega arith)
-  header-kind false false = ne-eqb (headerOf line false false / 8 % 2) 1 (λ e. omega arith)
 
 -- a held sample that the writer takes
 held-writable : (shadows : List ℕ) (x : Held) → x .header < 32 → x .source < 256 ^ 4 → x .stamp < 256 ^ 5 → x .user < 256 ^ 6 → (resource (x .header) ≡ true → within counterWidths shadows ≡ true) → writable firstChip (heldSample shadows x) ≡ true

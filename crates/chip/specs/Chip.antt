@@ -1,5 +1,5 @@
 -- Document 01, "The chip's operations": the record, and what each operation answers and leaves. Each part below names its paragraph.
-use Prim.Native.Nat.{ℕ, _+_, _*_, _%_, _^_}
+use Prim.Native.Nat.{ℕ, _+_, _%_, _^_}
 use mathlib.Core.Bool.{Bool, true, false, cond, _&&_, _||_}
 use mathlib.Core.List.{List}
 use lib.Count.{onesIn, trailingZeros}
@@ -13,16 +13,17 @@ use Rattle.counters.specs.declared.switches.Kind.the-variants.{Slow, Node}
 use Rattle.queue.specs.Queue.{advanced, busy, emptyQueue, full, insideQueue, nextWord, pushed, sendBuffer, sendMany}
 use Rattle.queue.specs.declared.queue.Held.{Held}
 use Rattle.queue.specs.declared.queue.Queue.{Queue}
-use Rattle.chip.specs.Control.{configured, csrOf, filtering, noControl, one, overran, taken, overrunsCleared, waitsCleared, waited}
-use Rattle.chip.specs.Fate.{Fate, fate, isOff, isFiltered, isLost, isTold, isTaken}
+use Rattle.control.specs.Control.{configured, csrOf, filtering, headerOf, noControl, overran, taken, overrunsCleared, waitsCleared, waited}
+use Rattle.control.specs.Fate.{Fate, fate, isOff, isFiltered, isLost, isTold, isTaken}
+use Rattle.control.specs.Reply.{rowOf}
+use Rattle.control.specs.declared.control.Control.{Control}
+use Rattle.control.specs.declared.reply.Reply.{Reply}
+use Rattle.control.specs.declared.reply.Reply.the-variants.{Done, TooHigh, Nothing, Forbidden, Lines, NoWord, Off, Filtered, Lost, Wait, Busy, Outside}
 use Rattle.chip.specs.Place.{placeOf}
-use Rattle.chip.specs.Reply.{Told, rowOf, toldRow}
+use Rattle.chip.specs.Told.{Told, toldRow}
 use Rattle.chip.specs.declared.chip.Chip.{Chip}
-use Rattle.chip.specs.declared.control.Control.{Control}
 use Rattle.chip.specs.declared.place.Place.{Place}
 use Rattle.chip.specs.declared.place.Place.the-variants.{Beyond, Nowhere, Reset, Csr, Timestamp, Filter, Waits, Overruns, Mux, Clear, Enable, Disable, Source, Counter, Trigger}
-use Rattle.chip.specs.declared.reply.Reply.{Reply}
-use Rattle.chip.specs.declared.reply.Reply.the-variants.{Done, TooHigh, Nothing, Forbidden, Lines, NoWord, Off, Filtered, Lost, Wait, Busy, Outside}
 
 -- ---- "Each operation is given the whole record": a chip with another part
 
@@ -95,10 +96,6 @@ blocked resource q = resource && busy q
 -- "A trigger lacks room if 8 are held, or if it is a Resource trigger and a Resource sample is held"
 abbrev pub lacksRoom : Bool → Queue → Bool
 lacksRoom resource q = full q || blocked resource q
-
--- "bits 0..2 the active line's number, bit 3 set for a Resource sample, bit 4 the lost mark before this trigger"
-abbrev pub headerOf : ℕ → Bool → Bool → ℕ
-headerOf line resource lost = line + 8 * one resource + 16 * one lost
 
 -- "A taken sample fixes its fields at the trigger": "Timestamp low 40 bits", "user data low 48 bits"; "The Source Address is that
 -- line's register"

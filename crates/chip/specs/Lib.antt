@@ -1,11 +1,9 @@
 pub mod Chip
-pub mod Control
-pub mod Fate
 pub mod Operation
 pub mod Parts
 pub mod Place
 pub mod Repeat
-pub mod Reply
 pub mod Rows
 pub mod Sent
 pub mod Shape
+pub mod Told

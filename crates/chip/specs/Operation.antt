@@ -2,7 +2,7 @@
 -- of operations go by it.
 use Prim.Native.Nat.{ℕ}
 use Rattle.chip.specs.Chip.{externalEvents, hardReset, nodeTicks, read, send, sendInto, timestampTicks, write}
-use Rattle.chip.specs.Reply.{Told}
+use Rattle.chip.specs.Told.{Told}
 use Rattle.chip.specs.declared.chip.Chip.{Chip}
 
 -- a write has its address, data (`bits` here and in the code, since `data` is a word of the language) and processor lines, a read its

@@ -1,11 +1,11 @@
 // The chip: one record by value, and each operation with the next record beside its reply.
-use super::control::Control;
-use super::control::TWO_16;
-use super::control::one;
 use super::place::Place;
 use super::place::find;
-use super::reply::Reply;
-use super::reply::value_of;
+use control::control::Control;
+use control::control::TWO_16;
+use control::control::header_of;
+use control::reply::Reply;
+use control::reply::value_of;
 use counters::bank::Bank;
 use counters::switches::Kind;
 use counters::switches::Switches;
@@ -16,7 +16,7 @@ ghost use mathlib.Core.Bool.{cond};
 ghost use Prim.Native.Nat.{_<_, _^_};
 ghost use lib.ListN.{getD, length, set};
 ghost use Rattle.counters.specs.Bank.{copied};
-ghost use Rattle.chip.specs.Reply.{told};
+ghost use Rattle.chip.specs.Told.{told};
 ghost use Rattle.chip.specs.Chip.{afterTicks, blocked, done, externalEvents, fresh, hardReset, inside, nodeTicks, noneHeld, read, readAt, readCounter, replied, sampleNow, send, sendInto, sentBuffer, softReset, takeSample, timestampTicks, trigger, triggerBy, fateOf, withBank, withControl, withSources, withStamp, withSwitches, write, writeAt};
 
 const TWO_32: u64 = 1 << 32;
@@ -383,7 +383,7 @@ impl Chip {
             user: bits % TWO_48,
             stamp: self.stamp % TWO_40,
             source: self.source(line as usize),
-            header: line + 8 * one(resource) + 16 * one(self.control.lost),
+            header: header_of(line as u8, resource, self.control.lost),
         }
     }
 }

@@ -1,5 +1,3 @@
 // The MultiKron chip in normal mode: one record by value, and every operation on it.
 pub mod chip;
-pub mod control;
 pub mod place;
-pub mod reply;

@@ -2,7 +2,7 @@
 use super::same;
 use chip::chip::Answer;
 use chip::chip::Chip;
-use chip::reply::number_of;
+use control::reply::number_of;
 use printing::print;
 
 // What is gone through.

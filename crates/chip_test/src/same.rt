@@ -1,6 +1,6 @@
 // Whether two records are the same in every part.
 use chip::chip::Chip;
-use chip::control::Control;
+use control::control::Control;
 use counters::bank::Bank;
 use counters::switches::Switches;
 use printing::print;

@@ -2,7 +2,7 @@
 use super::same;
 use chip::chip::Answer;
 use chip::chip::Chip;
-use chip::reply::number_of;
+use control::reply::number_of;
 use printing::print;
 ghost use Prim.Native.Nat.{_≤_};
 ghost use lib.ListN.{length};

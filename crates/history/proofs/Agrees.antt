@@ -10,10 +10,10 @@ use lib.Pow.{pow-pos}
 use borrow.Author.Tests.{lt-ltb}
 use Rattle.counters.specs.declared.switches.Switches.{Switches}
 use Rattle.queue.specs.declared.queue.Queue.{Queue}
+use Rattle.control.specs.declared.control.Control.{Control}
 use Rattle.chip.specs.Chip.{guarded, inside}
-use Rattle.chip.specs.Reply.{Told}
+use Rattle.chip.specs.Told.{Told}
 use Rattle.chip.specs.declared.chip.Chip.{Chip}
-use Rattle.chip.specs.declared.control.Control.{Control}
 use Rattle.chip.proofs.ChipLaws.{guard-in}
 use Rattle.history.specs.Ledger.{Entry, Ledger, packed}
 use Rattle.history.proofs.CountLaws.{valueOf, wrapped}

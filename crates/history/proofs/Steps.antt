@@ -23,17 +23,17 @@ use Rattle.counters.specs.declared.switches.Switches.{Switches}
 use Rattle.counters.proofs.BitLaws.{bit-mod, disabled-bit, enabled-bit, high-bit, low-bit}
 use Rattle.queue.specs.Queue.{advanced, busy, emptyQueue, nextWord, sendMany, sendQueue, sendWords}
 use Rattle.queue.specs.declared.queue.Queue.{Queue}
+use Rattle.control.specs.Control.{csrOf, one, pair, waited}
+use Rattle.control.specs.Control.{configured as Control·configured}
+use Rattle.control.specs.declared.reply.Reply.the-variants.{Busy, NoWord, Wait}
 use Rattle.chip.specs.Chip.{afterTicks, done, externalEvents, fresh, nodeTicks, read, readAt, readCounter, replied, send, sendInto, sendNow, timestampTicks, withBank, withControl, withQueue, withStamp, write, writeAt}
-use Rattle.chip.specs.Control.{csrOf, one, pair, waited}
-use Rattle.chip.specs.Control.{configured as Control·configured}
 use Rattle.chip.specs.Operation.{Operation, opReset, opWrite, opRead, opTicks, opNodes, opEvents, opSend, opFill, step}
 use Rattle.chip.specs.Place.{placeOf, registerOf}
-use Rattle.chip.specs.Reply.{Told}
+use Rattle.chip.specs.Told.{Told}
 use Rattle.chip.specs.declared.chip.Chip.{Chip}
 use Rattle.chip.specs.declared.place.Place.{Place}
 use Rattle.chip.specs.declared.place.Place.the-variants.{Beyond, Nowhere, Csr, Source, Trigger}
 use Rattle.chip.specs.declared.place.Place.the-variants.{Counter as Place·Counter}
-use Rattle.chip.specs.declared.reply.Reply.the-variants.{Busy, NoWord, Wait}
 use Rattle.history.specs.Ledger.{Counter, Entry, Ledger, byRange, cleared, configured, counted, counterRead, csrIn, each, eachFrom, enabled, muxOf, happened, held, isSet, left, noCounter, packed, readIn, readLow, resetAt, selected, sentMore, slowIn, tells, entryOf, turned, vacant, waitedOne, withCounters, withErrors, withSettings, withStream, withTicks, written, writtenLow}
 use Rattle.history.specs.Stream.{anyHeld, isFull, totalOf, wordsOfAll}
 use Rattle.history.proofs.Addresses.{by-place, range-beyond, range-counter, range-source, range-trigger, range-vacant}

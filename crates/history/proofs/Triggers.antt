@@ -14,16 +14,16 @@ use Rattle.counters.specs.Bank.{bit, copied}
 use Rattle.queue.specs.Queue.{busy, full, heldSample, pushed}
 use Rattle.queue.specs.declared.queue.Held.{Held}
 use Rattle.queue.specs.declared.queue.Queue.{Queue}
-use Rattle.chip.specs.Chip.{blocked, fateOf, headerOf, lacksRoom, lineOf, oneLine, replied, sampleNow, trigger, triggerBy, withControl}
-use Rattle.chip.specs.Control.{one, overran, waited}
-use Rattle.chip.specs.Control.{withErrors as Control·withErrors}
-use Rattle.chip.specs.Fate.{fate, isOff, isFiltered, isLost, isTold, isTaken}
-use Rattle.chip.specs.Fate.{Fate as Chip·Fate}
-use Rattle.chip.proofs.Words.{header-kind}
+use Rattle.control.specs.Control.{headerOf, one, overran, waited}
+use Rattle.control.specs.Control.{withErrors as Control·withErrors}
+use Rattle.control.specs.Fate.{fate, isOff, isFiltered, isLost, isTold, isTaken}
+use Rattle.control.specs.Fate.{Fate as Chip·Fate}
+use Rattle.control.specs.declared.control.Control.{Control}
+use Rattle.control.specs.declared.reply.Reply.the-variants.{Lines, Wait}
+use Rattle.control.proofs.HeaderLaws.{header-kind}
+use Rattle.chip.specs.Chip.{blocked, fateOf, lacksRoom, lineOf, oneLine, replied, sampleNow, trigger, triggerBy, withControl}
 use Rattle.chip.specs.declared.chip.Chip.{Chip}
-use Rattle.chip.specs.declared.control.Control.{Control}
 use Rattle.counters.specs.declared.bank.Bank.{Bank}
-use Rattle.chip.specs.declared.reply.Reply.the-variants.{Lines, Wait}
 use Rattle.history.specs.Ledger.{Fate, Ledger, afterFate, byFate, fateIn, held, lineIn, lostOne, sampleIn, tells, triggered, unmarked, waitedOne, wasFiltered, wasLost, wasOff, wasTaken, wasTold, withErrors}
 use Rattle.history.specs.Stream.{anyHeld, isBlocked, isFull}
 use Rattle.history.proofs.Addresses.{line-is, line-same}

@@ -12,7 +12,7 @@ use Rattle.words.specs.Bytes.{number}
 use Rattle.chip.proofs.Replies.{reply-0, reply-1, reply-2, reply-3, reply-4, reply-5, reply-6, reply-7, reply-8, reply-10, reply-11, reply-15}
 use Rattle.chip.specs.Operation.{opReset, opTicks, opNodes, opEvents, step}
 use Rattle.chip.specs.Operation as chip
-use Rattle.chip.specs.Reply.{Told}
+use Rattle.chip.specs.Told.{Told}
 use Rattle.chip.specs.declared.chip.Chip.{Chip}
 use Rattle.script.specs.Kinds.{asked, badKind, badRecord, kindList, recordTells, refusedRecord}
 use Rattle.script.specs.Line.{answerLine, decimal, widthOf}

@@ -6,7 +6,7 @@ use lib.Dec.{eqb, ltb}
 use lib.ListN.{drop, getD, length}
 use Rattle.words.specs.Bytes.{number}
 use Rattle.chip.specs.Chip.{externalEvents, hardReset, nodeTicks, read, send, timestampTicks, write}
-use Rattle.chip.specs.Reply.{Told}
+use Rattle.chip.specs.Told.{Told}
 use Rattle.chip.specs.declared.chip.Chip.{Chip}
 use Rattle.script.specs.declared.operation.Operation.{Operation}
 use Rattle.script.specs.declared.operation.Operation.the-variants.{Bad, Reset, Write, Read, Ticks, Nodes, Events, Send}

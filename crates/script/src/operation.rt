@@ -1,12 +1,12 @@
 // A record of twelve bytes, and what it does.
 use chip::chip::Answer;
 use chip::chip::Chip;
-use chip::reply::number_of;
+use control::reply::number_of;
 ghost use mathlib.Core.Path.{_≡_};
 ghost use Prim.Native.Nat.{_+_, _≤_, _<_, _^_};
 ghost use lib.ListN.{drop, length, take};
 ghost use Rattle.words.specs.Bytes.{number};
-ghost use Rattle.chip.specs.Reply.{told};
+ghost use Rattle.chip.specs.Told.{told};
 ghost use Rattle.script.specs.Record.{byKind, fitting, operationOf, outcomeOf, runOf};
 
 const TWO_8: u64 = 1 << 8;

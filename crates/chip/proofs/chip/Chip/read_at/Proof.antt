@@ -3,8 +3,8 @@ use borrow.Author.Needs.{needs}
 use mathlib.Core.Path.{sym, ap, ap₂, _∙_}
 use Prim.Native.Nat.{ℕ}
 use mathlib.Core.Bool.{Bool}
+use Rattle.control.specs.Control.{csrOf}
 use Rattle.chip.specs.Chip.{done, readAt}
-use Rattle.chip.specs.Control.{csrOf}
 use Rattle.chip.specs.declared.place.Place.{Place}
 use Rattle.chip.proofs.chip.Chip.read_at.Statement.{statement}
 use Rattle.chip.proofs.chip.Chip.read_at.Tie as tie

@@ -7,11 +7,11 @@ use lib.ListN.{getD}
 use Rattle.counters.specs.Bank.{copied}
 use Rattle.counters.specs.declared.bank.Bank.{Bank}
 use Rattle.queue.specs.Queue.{busy}
+use Rattle.control.specs.Control.{waited}
+use Rattle.control.specs.declared.control.Control.{Control}
+use Rattle.control.specs.declared.reply.Reply.the-variants.{Busy, Wait}
 use Rattle.chip.specs.Chip.{done, readCounter, replied, withBank, withControl}
-use Rattle.chip.specs.Control.{waited}
 use Rattle.chip.specs.declared.chip.Chip.{Chip}
-use Rattle.chip.specs.declared.control.Control.{Control}
-use Rattle.chip.specs.declared.reply.Reply.the-variants.{Busy, Wait}
 use Rattle.chip.proofs.chip.Chip.read_counter.Statement.{statement}
 use Rattle.chip.proofs.chip.Chip.read_counter.Tie as tie
 

@@ -2,7 +2,8 @@
 use borrow.Author.Needs.{needs}
 use mathlib.Core.Path.{ap}
 use Prim.Native.Nat.{ℕ}
-use Rattle.chip.specs.Reply.{replyNumber, toldRow}
+use Rattle.control.specs.Reply.{replyNumber}
+use Rattle.chip.specs.Told.{toldRow}
 use Rattle.chip.proofs.chip.Chip.replied.Statement.{statement}
 use Rattle.chip.proofs.chip.Chip.replied.Tie as tie
 

@@ -5,8 +5,8 @@ use mathlib.Core.Bool.{Bool, cond}
 use Rattle.queue.specs.Queue.{advanced, nextWord}
 use Rattle.queue.specs.declared.queue.Sent.{Sent}
 use Rattle.queue.proofs.SendLaws.{send-next}
+use Rattle.control.specs.declared.reply.Reply.the-variants.{NoWord}
 use Rattle.chip.specs.Chip.{done, replied, send, withQueue}
-use Rattle.chip.specs.declared.reply.Reply.the-variants.{NoWord}
 use Rattle.chip.proofs.ChipLaws.{guard-in, guard-out}
 use Rattle.chip.proofs.chip.Chip.send.Statement.{statement}
 use Rattle.chip.proofs.chip.Chip.send.Tie as tie

@@ -5,8 +5,8 @@ use mathlib.Core.Bool.{Bool, cond}
 use lib.Count.{onesIn}
 use borrow.Author.Tests.{eq-eqb, ne-eqb}
 use Rattle.words.proofs.WordLaws.{ones-in}
+use Rattle.control.specs.declared.reply.Reply.the-variants.{Lines}
 use Rattle.chip.specs.Chip.{fateOf, lineOf, replied, trigger, triggerBy}
-use Rattle.chip.specs.declared.reply.Reply.the-variants.{Lines}
 use Rattle.chip.proofs.LineLaws.{line-below}
 use Rattle.chip.proofs.chip.Chip.trigger.Statement.{statement}
 use Rattle.chip.proofs.chip.Chip.trigger.Tie as tie

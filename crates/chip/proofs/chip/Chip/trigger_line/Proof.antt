@@ -5,12 +5,12 @@ use mathlib.Core.Bool.{Bool, _||_}
 use Prim.Native.Nat.{ℕ}
 use borrow.Author.Tests.{not-true, not-false}
 use Rattle.counters.specs.Bank.{bit}
+use Rattle.control.specs.Control.{overran}
+use Rattle.control.specs.Fate.{fate}
+use Rattle.control.specs.declared.control.Control.{Control}
+use Rattle.control.specs.declared.reply.Reply.the-variants.{Lost, Wait}
 use Rattle.chip.specs.Chip.{done, fateOf, lacksRoom, replied, triggerBy, withControl}
-use Rattle.chip.specs.Fate.{fate}
-use Rattle.chip.specs.Control.{overran}
 use Rattle.chip.specs.declared.chip.Chip.{Chip}
-use Rattle.chip.specs.declared.control.Control.{Control}
-use Rattle.chip.specs.declared.reply.Reply.the-variants.{Lost, Wait}
 use Rattle.chip.proofs.chip.Chip.trigger_line.Statement.{statement}
 use Rattle.chip.proofs.chip.Chip.trigger_line.Tie as tie
 

@@ -1,10 +1,10 @@
--- `chip::control::Control::waited` meets its contract: the sum wraps at 2^32. Assumes nothing.
+-- `control::control::Control::waited` meets its contract: the sum wraps at 2^32. Assumes nothing.
 use borrow.Author.Needs.{needs}
 use mathlib.Core.Path.{ap}
 use Prim.Native.Nat.{ℕ}
-use Rattle.chip.specs.Control.{withErrors}
-use Rattle.chip.proofs.control.Control.waited.Statement.{statement}
-use Rattle.chip.proofs.control.Control.waited.Tie as tie
+use Rattle.control.specs.Control.{withErrors}
+use Rattle.control.proofs.control.Control.waited.Statement.{statement}
+use Rattle.control.proofs.control.Control.waited.Tie as tie
 
 wrapping-add-u32-requires : tie.Need-wrapping-add-u32-requires
 wrapping-add-u32-requires c κs = search needs

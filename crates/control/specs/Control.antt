@@ -1,8 +1,9 @@
--- Document 01, "CSR", "Triggers and the queue" and addresses 4, 5 and 6: settings, error counters, flags and the lost mark.
+-- Document 01, "CSR", "Triggers and the queue" and addresses 4, 5 and 6: settings, error counters, flags and the lost mark; and, by
+-- "Sample and words", the header that tells of it.
 use Prim.Native.Nat.{ℕ, _+_, _*_, _%_, _^_}
 use mathlib.Core.Bool.{Bool, true, false, cond, _||_}
 use Rattle.counters.specs.Bank.{bit, grown}
-use Rattle.chip.specs.declared.control.Control.{Control}
+use Rattle.control.specs.declared.control.Control.{Control}
 
 -- "every part becomes zero"; "After a reset the three settings are 0"
 abbrev pub noControl : Control
@@ -72,3 +73,7 @@ abbrev pub csrOf : Bool → Bool → Control → ℕ
 csrOf full busy c =
     (one (c .sampling) + 4 * one (c .writewait) + 16 * one (c .readwait)) + (64 * one full + 128 * one busy)
     + (256 * one (c .flagfull) + 512 * one (c .flagbusy))
+
+-- "bits 0..2 the active line's number, bit 3 set for a Resource sample, bit 4 the lost mark before this trigger"
+abbrev pub headerOf : ℕ → Bool → Bool → ℕ
+headerOf line resource lost = line + 8 * one resource + 16 * one lost

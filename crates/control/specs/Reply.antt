@@ -1,9 +1,7 @@
--- Document 01, "Reply numbers": the table's columns "No." and "Value", and an answer by its number.
+-- Document 01, "Reply numbers": the table's columns "No." and "Value".
 use Prim.Native.Nat.{ℕ, _^_}
-use Rattle.chip.specs.declared.chip.Answer.{Answer}
-use Rattle.chip.specs.declared.chip.Chip.{Chip}
-use Rattle.chip.specs.declared.reply.Reply.{Reply}
-use Rattle.chip.specs.declared.reply.Reply.the-variants.{Done, TooHigh, Nothing, Forbidden, Lines, NoWord, Off, Filtered, Lost, Wait, Busy, Outside}
+use Rattle.control.specs.declared.reply.Reply.{Reply}
+use Rattle.control.specs.declared.reply.Reply.the-variants.{Done, TooHigh, Nothing, Forbidden, Lines, NoWord, Off, Filtered, Lost, Wait, Busy, Outside}
 
 -- a row's number and value
 pub record Row : Type 0 where
@@ -31,16 +29,3 @@ replyNumber r = rowOf r 0 .number
 
 abbrev pub replyValue : Reply → ℕ
 replyValue r = rowOf r 0 .value
-
--- "hands back the next one, with a reply number and a 64-bit value"
-pub record Told : Type 0 where
-  pub chip : Chip
-  pub number : ℕ
-  pub value : ℕ
-
--- what an answer tells, and what a row tells of a record
-abbrev pub told : Answer → Told
-told a = record { chip = a .chip; number = replyNumber (a .reply); value = a .value }
-
-abbrev pub toldRow : Row → Chip → Told
-toldRow row c = record { chip = c; number = row .number; value = row .value }

@@ -1,8 +1,8 @@
-// The settings, the Filter, the error counters, the overrun flags and the lost mark.
+// The settings, the Filter, the error counters, the overrun flags and the lost mark; and a sample's header, which tells of it.
 ghost use mathlib.Core.Path.{_≡_};
 ghost use Prim.Native.Nat.{_≤_};
 ghost use Rattle.counters.specs.Bank.{bit};
-ghost use Rattle.chip.specs.Control.{configured, csrOf, filtering, noControl, one, overran, pair, taken, overrunsCleared, waitsCleared, waited};
+ghost use Rattle.control.specs.Control.{configured, csrOf, filtering, headerOf, noControl, one, overran, pair, taken, overrunsCleared, waitsCleared, waited};
 
 // No padding (16 bytes).
 pub struct Control {
@@ -133,6 +133,13 @@ fn pair(even: bool, odd: bool, before: bool) -> bool
         return true;
     }
     before
+}
+
+// A sample's header: the active line's number, whether it is a Resource sample, and the lost mark before its trigger.
+pub fn header_of(line: u8, resource: bool, lost: bool) -> u32
+    ensures { λ r. ⌜ r ≡ headerOf line resource lost ⌝ }
+{
+    line as u32 + 8 * one(resource) + 16 * one(lost)
 }
 
 // A flag as a number.

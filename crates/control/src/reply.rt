@@ -1,6 +1,6 @@
 // What an operation answers, and document 01's number and value for it.
 ghost use mathlib.Core.Path.{_≡_};
-ghost use Rattle.chip.specs.Reply.{replyNumber, replyValue};
+ghost use Rattle.control.specs.Reply.{replyNumber, replyValue};
 
 pub enum Reply {
     Done,

@@ -1,11 +1,11 @@
--- `chip::control::Control::overran` meets its contract: the sum wraps at 2^32. Assumes nothing.
+-- `control::control::Control::overran` meets its contract: the sum wraps at 2^32. Assumes nothing.
 use borrow.Author.Needs.{needs}
 use mathlib.Core.Path.{ap}
 use mathlib.Core.Bool.{true, _||_}
 use Prim.Native.Nat.{ℕ}
-use Rattle.chip.specs.Control.{withErrors, withMarks}
-use Rattle.chip.proofs.control.Control.overran.Statement.{statement}
-use Rattle.chip.proofs.control.Control.overran.Tie as tie
+use Rattle.control.specs.Control.{withErrors, withMarks}
+use Rattle.control.proofs.control.Control.overran.Statement.{statement}
+use Rattle.control.proofs.control.Control.overran.Tie as tie
 
 wrapping-add-u32-requires : tie.Need-wrapping-add-u32-requires
 wrapping-add-u32-requires c κs = search needs

@@ -1,9 +1,9 @@
--- `chip::control::Control::passes` meets its contract: the Filter has no bit past the sixteenth. Assumes nothing.
+-- `control::control::Control::passes` meets its contract: the Filter has no bit past the sixteenth. Assumes nothing.
 use borrow.Author.Needs.{needs}
 use mathlib.Core.Path.{sym}
 use Rattle.counters.proofs.BitLaws.{bit-past}
-use Rattle.chip.proofs.control.Control.passes.Statement.{statement}
-use Rattle.chip.proofs.control.Control.passes.Tie as tie
+use Rattle.control.proofs.control.Control.passes.Statement.{statement}
+use Rattle.control.proofs.control.Control.passes.Tie as tie
 
 cast-result : tie.Need-cast-result
 cast-result c = search needs

@@ -1,13 +1,13 @@
--- `chip::control::Control::configured` meets its contract: a pair of bits for each setting. Assumes nothing.
+-- `control::control::Control::configured` meets its contract: a pair of bits for each setting. Assumes nothing.
 use borrow.Author.Needs.{needs}
 use Prim.Native.Nat.{ℕ, _%_}
 use native.Mathlib.Nat.{div-one}
 use mathlib.Core.Path.{ap, sym, _∙_}
 use lib.Dec.{eqb}
 use Rattle.counters.specs.Bank.{bit}
-use Rattle.chip.specs.Control.{pair}
-use Rattle.chip.proofs.control.Control.configured.Statement.{statement}
-use Rattle.chip.proofs.control.Control.configured.Tie as tie
+use Rattle.control.specs.Control.{pair}
+use Rattle.control.proofs.control.Control.configured.Statement.{statement}
+use Rattle.control.proofs.control.Control.configured.Tie as tie
 
 pair-requires : tie.Need-pair-requires
 pair-requires c κs = search needs
