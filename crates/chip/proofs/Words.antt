@@ -43,13 +43,13 @@ use Rattle.chip.proofs.WidthLaws.{within-at}
 
 module _ (c : Chip) (h : inside c ≡ true) (some : c .queue .held ≡ 0 → ⊥) where
   -- k sends give k of them, from the first one that is not sent yet
-  pub words-after : (k : ℕ) → Shaped c → c .queue .sent + k ≤ firstCount (c .queue) → given k opSend c ≡ take k (drop (c .queue .sent) (firstWords c))
+  pub words-after : (k : ℕ) → Shaped c → c .queue .sent + k ≤ firstCount firstChip (c .queue) → given k opSend c ≡ take k (drop (c .queue .sent) (firstWords c))
   words-after k s p =
       let sixteen : length (c .bank .shadows) ≡ 16 = within-length counterWidths (c .bank .shadows) (s .shadows) in
       let ws : List ℕ = firstWords c in
-      let long : length ws ≡ firstCount (c .queue) = sample-length firstChip (heldSample (c .bank .shadows) (firstHeld (c .queue))) (held-sixteen (c .bank .shadows) (firstHeld (c .queue)) sixteen) in
-      let words : sendWords k (c .bank .shadows) (c .queue) ≡ take k (drop (c .queue .sent) ws) = words-first k (c .bank .shadows) (c .queue) sixteen some p in
-      let count : length (sendWords k (c .bank .shadows) (c .queue)) ≡ k =
+      let long : length ws ≡ firstCount firstChip (c .queue) = sample-length firstChip (heldSample (c .bank .shadows) (firstHeld (c .queue))) (held-sixteen (c .bank .shadows) (firstHeld (c .queue)) sixteen) in
+      let words : sendWords firstChip k (c .bank .shadows) (c .queue) ≡ take k (drop (c .queue .sent) ws) = words-first firstChip k (c .bank .shadows) (c .queue) sixteen some p in
+      let count : length (sendWords firstChip k (c .bank .shadows) (c .queue)) ≡ k =
       ap length words ∙ length-take-le k (drop (c .queue .sent) ws) (simp (length-drop, long) (omega arith)) in
       ap (λ (n : ℕ). given n opSend c) (sym count) ∙ given-sends k c h ∙ words
 

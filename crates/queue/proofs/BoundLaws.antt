@@ -13,6 +13,14 @@ use Rattle.queue.specs.Queue.{advanced, firstCount, firstHeld, insideQue
 use Rattle.queue.specs.declared.queue.Held.{Held}
 use Rattle.queue.specs.declared.queue.Queue.{Queue}
 
+-- the places stay eight, with one sample more
+pub push-places : (h : Held) (q : Queue) → length (q .places) ≡ 8 → length (pushed h q .places) ≡ 8
+push-places h q e = go (ltb (q .held) 8)
+  where
+    go : (b : Bool) → length (cond b (record { places = set (q .places) (q .held) h; held = q .held + 1; sent = q .sent }) q .places) ≡ 8
+    go true = length-set (q .places) (q .held) h ∙ e
+    go false = e
+
 module _ (w : Widths) where
   -- a sample has words
   pub first-some : (q : Queue) → 0 < firstCount w q
@@ -96,14 +104,7 @@ module _ (w : Widths) where
       go true p ih = e
       go false p ih = ih (advance-bounds q (eqb-false (q .held) 0 p) e)
 
-  -- the places stay eight
-  pub push-places : (h : Held) (q : Queue) → length (q .places) ≡ 8 → length (pushed h q .places) ≡ 8
-  push-places h q e = go (ltb (q .held) 8)
-    where
-      go : (b : Bool) → length (cond b (record { places = set (q .places) (q .held) h; held = q .held + 1; sent = q .sent }) q .places) ≡ 8
-      go true = length-set (q .places) (q .held) h ∙ e
-      go false = e
-
+  -- and with any sends
   pub advance-places : (q : Queue) → length (q .places) ≡ 8 → length (advanced w q .places) ≡ 8
   advance-places q e = go (ltb (q .sent + 1) (firstCount w q))
     where

@@ -18,6 +18,10 @@ use Rattle.queue.specs.declared.queue.Queue.{Queue}
 use Rattle.queue.proofs.QueueLaws.{held-sixteen}
 use Rattle.queue.proofs.SendLaws.{send-suc}
 
+-- a queue whose first sample has k more words sent
+abbrev pub sentMore : ℕ → Queue → Queue
+sentMore k q = record { places = q .places; held = q .held; sent = q .sent + k }
+
 module _ (w : Widths) where
   module _ (sh : List ℕ) where
     -- at most as many as there is room for
@@ -49,10 +53,6 @@ module _ (w : Widths) where
         go : (b : Bool) → eqb (q .held) 0 ≡ b → length (cond b [] (nextWord w sh q ∷ sendWords w m sh (advanced w q))) < suc m → (length (sendWords w m sh (advanced w q)) < m → sendQueue w m (advanced w q) .held ≡ 0) → cond b q (sendQueue w m (advanced w q)) .held ≡ 0
         go true e p ih = eqb-true (q .held) 0 e
         go false e p ih = ih (le-of-suc-le-suc p)
-
-  -- a queue whose first sample has k more words sent
-  abbrev pub sentMore : ℕ → Queue → Queue
-  sentMore k q = record { places = q .places; held = q .held; sent = q .sent + k }
 
   pub send-first : (k : ℕ) (q : Queue) → (q .held ≡ 0 → ⊥) → q .sent + k < firstCount w q → sendQueue w k q ≡ sentMore k q
   unfolding sendQueue

@@ -20,6 +20,10 @@ abbrev pub widths : Edition → Widths
 widths First = record { stampBytes = 5; userBytes = 6 }
 widths Second = record { stampBytes = 7; userBytes = 8 }
 
+-- those of the MultiKron, which document 01 is about
+abbrev pub firstChip : Widths
+firstChip = widths First
+
 -- "bit 3 set for a Resource sample"
 abbrev pub resource : ℕ → Bool
 resource h = eqb (h / 8 % 2) 1
