@@ -9,6 +9,7 @@ use lib.ListN.{length, getD, replicate, length-map}
 use lib.Pow.{mod-mod-pow}
 use borrow.Author.Tests.{leb-false, ltb-true}
 use Rattle.samples.specs.Layout.{resource}
+use Rattle.samples.specs.declared.edition.Edition.the-variants.{First}
 use Rattle.samples.specs.declared.sample.Sample.{Sample}
 use Rattle.counters.specs.Bank.{bit, copied}
 use Rattle.queue.specs.Queue.{busy, full, heldSample, pushed}
@@ -76,10 +77,10 @@ or-right false b e = e
 
 module _ (l : Ledger) (q : Queue) (sh : List ℕ) (g : Good l q sh) where
   full-same : full q ≡ isFull (held l)
-  full-same = holds-full (l .taken) (l .sent) sh q (g .holds)
+  full-same = holds-full First (l .taken) (l .sent) sh q (g .holds)
 
   busy-same : busy q ≡ anyHeld (held l)
-  busy-same = holds-busy (l .taken) (l .sent) sh q (g .holds)
+  busy-same = holds-busy First (l .taken) (l .sent) sh q (g .holds)
 
   blocked-same : (r : Bool) → blocked r q ≡ isBlocked r (held l)
   blocked-same r = ap (λ (b : Bool). r && b) busy-same
@@ -117,16 +118,16 @@ module _ (l : Ledger) (q : Queue) (sh : List ℕ) (g : Good l q sh) where
   sample-sixteen false line bits = refl
 
   -- the shadows may be written by a Resource trigger that finds room
-  shadowed : (r : Bool) → blocked r q ≡ false → Holds (l .taken) (l .sent) (cond r (map valueOf (l .counters)) sh) q
-  shadowed true free = holds-copied (l .taken) (l .sent) sh q (g .holds) (map valueOf (l .counters)) free
+  shadowed : (r : Bool) → blocked r q ≡ false → Holds First (l .taken) (l .sent) (cond r (map valueOf (l .counters)) sh) q
+  shadowed true free = holds-copied First (l .taken) (l .sent) sh q (g .holds) (map valueOf (l .counters)) free
   shadowed false free = g .holds
 
-  taken-holds : (r : Bool) (line bits : ℕ) → line < 8 → lacksRoom r q ≡ false → Holds (l .taken ++ (sampleIn r line bits l ∷ [])) (l .sent) (cond r (map valueOf (l .counters)) sh) (pushed (sampleNow r line bits (chipFor l q sh)) q)
+  taken-holds : (r : Bool) (line bits : ℕ) → line < 8 → lacksRoom r q ≡ false → Holds First (l .taken ++ (sampleIn r line bits l ∷ [])) (l .sent) (cond r (map valueOf (l .counters)) sh) (pushed (sampleNow r line bits (chipFor l q sh)) q)
   taken-holds r line bits h room =
       let sh′ : List ℕ = cond r (map valueOf (l .counters)) sh in
       let place : Held = sampleNow r line bits (chipFor l q sh) in
-      subst (λ (s : Sample). Holds (l .taken ++ (s ∷ [])) (l .sent) sh′ (pushed place q)) (sample-same r line bits h)
-      (holds-pushed (l .taken) (l .sent) sh′ q (shadowed r (or-right (full q) (blocked r q) room)) place (leb-false 8 (q .held) (or-left (full q) (blocked r q) room)))
+      subst (λ (s : Sample). Holds First (l .taken ++ (s ∷ [])) (l .sent) sh′ (pushed place q)) (sample-same r line bits h)
+      (holds-pushed First (l .taken) (l .sent) sh′ q (shadowed r (or-right (full q) (blocked r q) room)) place (leb-false 8 (q .held) (or-left (full q) (blocked r q) room)))
 
   bank-same : (r : Bool) → _≡_ {A = Bank} (cond r (copied (record { values = map valueOf (l .counters); shadows = sh })) (record { values = map valueOf (l .counters); shadows = sh })) (record { values = map valueOf (l .counters); shadows = cond r (map valueOf (l .counters)) sh })
   bank-same true = refl
