@@ -7,7 +7,7 @@ use mathlib.Core.Path.{_≡_, refl, sym, ap, ap₂, _∙_, subst}
 use mathlib.Core.Bool.{Bool, true, false, cond}
 use mathlib.Core.List.{List, [], _∷_, _++_, append-assoc, append-nil}
 use lib.Dec.{leb}
-use lib.ListN.{length, drop, length-append}
+use lib.ListN.{length, drop, length-append, length-drop}
 use lib.Seq.{drop-append-add}
 use borrow.Author.Tests.{le-leb, lt-leb, leb-true, leb-false}
 use Rattle.samples.specs.Layout.{resource, sampleLength, sampleWords, widths}
@@ -43,19 +43,13 @@ pub record Next (ed : Edition) (ss : List Sample) (n : ℕ) : Type 0 where
 module _ (ed : Edition) where
   -- the layout's length
   pub layout-length : (s : Sample) → sampleLength (widths ed) (resource (s .header)) ≡ lengthOf ed s
-  layout-length s = go ed
+  layout-length s = go ed (resource (s .header)) refl
     where
-      first : (r : Bool) → sampleLength (widths First) r ≡ cond r 80 16
-      first true = refl
-      first false = refl
-
-      second : (r : Bool) → sampleLength (widths Second) r ≡ cond r 84 20
-      second true = refl
-      second false = refl
-
-      go : (d : Edition) → sampleLength (widths d) (resource (s .header)) ≡ lengthOf d s
-      go First = first (resource (s .header))
-      go Second = second (resource (s .header))
+      go : (d : Edition) (r : Bool) → resource (s .header) ≡ r → sampleLength (widths d) (resource (s .header)) ≡ lengthOf d s
+      go First true e = rw e
+      go First false e = rw e
+      go Second true e = rw e
+      go Second false e = rw e
 
   -- so every sample has words, and this many
   pub some-words : (s : Sample) → 0 < lengthOf ed s
@@ -70,6 +64,10 @@ module _ (ed : Edition) where
   words-total [] h = refl
   words-total (s ∷ ss) h =
       length-append (sampleWords (widths ed) s) (wordsOfAll ed ss) ∙ ap₂ (λ (a b : ℕ). a + b) (words-length s (h .0)) (words-total ss (h .1))
+
+  -- and as many are left as are not sent
+  pub words-left : (ss : List Sample) (n : ℕ) → Sixteen ss → length (drop n (wordsOfAll ed ss)) ≡ totalOf ed ss - n
+  words-left ss n h = length-drop n (wordsOfAll ed ss) ∙ ap (λ (m : ℕ). m - n) (words-total ss h)
 
   pub words-more : (ss : List Sample) (s : Sample) → wordsOfAll ed (ss ++ (s ∷ [])) ≡ wordsOfAll ed ss ++ sampleWords (widths ed) s
   unfolding wordsOfAll

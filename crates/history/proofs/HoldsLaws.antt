@@ -1,7 +1,7 @@
 -- The queue and the ledger's stream: the places hold the samples that the list says are held, and the words go out in order.
 -- Assumes nothing.
-use Prim.Native.Nat.{ℕ, zero, suc, _+_, _-_, _≤_, _<_, min}
-use native.Mathlib.Nat.{not-suc-le-zero, suc-ne-zero, add-zero}
+use Prim.Native.Nat.{ℕ, zero, suc, _+_, _-_, _*_, _≤_, _<_, min}
+use native.Mathlib.Nat.{not-suc-le-zero, suc-ne-zero, add-zero, le-trans, mul-le-mul-right}
 use native.Mathlib.Numerals.{add-one}
 use native.Mathlib.Omega.{arith}
 use mathlib.Core.Path.{_≡_, refl, sym, ap, ap₂, _∙_, subst}
@@ -12,7 +12,7 @@ use lib.ListN.{length, take, drop, getD, set, replicate, length-append, length-m
 use lib.Seq.{drop-cons, take-suc-set, length-take-le, take-append-le, getD-drop}
 use lib.ListN.{List·getD-append}
 use borrow.Author.Tests.{eqb-false, eqb-true, lt-ltb, ltb-true, ltb-false}
-use Rattle.samples.specs.Layout.{resource, sampleWords, widths}
+use Rattle.samples.specs.Layout.{resource, sampleLength, sampleWords, widths}
 use Rattle.samples.specs.declared.edition.Edition.{Edition}
 use Rattle.samples.specs.declared.sample.Sample.{Sample}
 use Rattle.queue.specs.Queue.{advanced, anyResource, busy, emptyQueue, firstCount, firstHeld, full, heldSample, insideQueue, nextWord, pushed, sendQueue, sendWords, shifted, zeroHeld}
@@ -20,7 +20,7 @@ use Rattle.queue.specs.declared.queue.Held.{Held}
 use Rattle.queue.specs.declared.queue.Queue.{Queue}
 use Rattle.queue.proofs.BoundLaws.{bounds-back}
 use Rattle.history.specs.Stream.{anyHeld, heldOf, isFull, lengthOf, totalOf, wordsOfAll}
-use Rattle.history.proofs.HeldLaws.{Next, Sixteen, drop-held, held-none, held-push, layout-length, next-word, offset-all, offsetOf, sixteen-held, total-more, words-length, words-total}
+use Rattle.history.proofs.HeldLaws.{Next, Sixteen, drop-held, held-none, held-push, layout-length, left-bound, next-word, offset-all, offsetOf, sixteen-held, total-more, words-left, words-length, words-total}
 
 -- the queue holds what the list says
 pub record Holds (ed : Edition) (taken : List Sample) (n : ℕ) (sh : List ℕ) (q : Queue) : Type 0 where
@@ -234,3 +234,16 @@ module _ (ed : Edition) where
                 ∙ ap (λ (m : ℕ). take m (drop n (wordsOfAll ed taken))) (sym more),
             subst (λ (m : ℕ). Holds ed taken m sh (sendQueue (widths ed) room (advanced (widths ed) p))) (omega arith) (y .1),
           )
+
+  -- how many words that are
+  pub many-count : (taken : List Sample) → Sixteen taken → (sh : List ℕ) (room n : ℕ) (p : Queue) → Holds ed taken n sh p → length (sendWords (widths ed) room sh p) ≡ min room (totalOf ed taken - n)
+  many-count taken sixteen sh room n p h =
+      let m : ℕ = min room (totalOf ed taken - n) in
+      ap length (many taken sixteen sh room n p h .0)
+      ∙ length-take-le m (drop n (wordsOfAll ed taken)) (subst (λ (k : ℕ). m ≤ k) (sym (words-left ed taken n sixteen)) (omega arith))
+
+  -- eight samples are held at most, so no more words are left than eight Resource samples have
+  pub holds-left : (taken : List Sample) (n : ℕ) (sh : List ℕ) (q : Queue) → Holds ed taken n sh q → totalOf ed taken - n ≤ 8 * sampleLength (widths ed) true
+  holds-left taken n sh q h =
+      le-trans (left-bound ed taken n)
+      (mul-le-mul-right (sampleLength (widths ed) true) (subst (λ (k : ℕ). k ≤ 8) (sym (held-count taken n sh q h)) (h .few)))

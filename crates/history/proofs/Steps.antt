@@ -1,21 +1,18 @@
 -- Every operation keeps the relation between ledger and record, and replies what the ledger says. Assumes nothing.
-use Prim.Native.Nat.{ℕ, zero, suc, _+_, _-_, _*_, _/_, _%_, _^_, _≤_, _<_, min}
+use Prim.Native.Nat.{ℕ, zero, suc, _+_, _-_, _*_, _/_, _%_, _^_, _<_, min}
 use native.Mathlib.Nat.{mod-add-mod, mod-lt}
-use native.Mathlib.Numerals.{add-one}
 use native.Mathlib.Omega.{arith}
 use mathlib.Core.Path.{_≡_, refl, sym, ap, ap₂, _∙_, subst}
 use mathlib.Core.Bool.{Bool, true, false, cond, not, _&&_, _||_}
-use mathlib.Core.List.{List, [], _∷_, map}
+use mathlib.Core.List.{List, map}
 use lib.Bits.{and-lt, or-lt}
 use lib.Dec.{eqb, leb}
-use lib.ListN.{length, take, drop, getD, replicate, set, length-drop}
+use lib.ListN.{length, getD, replicate}
 use lib.Pow.{pow-pos}
-use lib.Seq.{drop-cons, length-take-le}
 use borrow.Author.Tests.{eq-eqb, ne-eqb, eqb-true, eqb-false}
-use Rattle.samples.specs.Layout.{firstChip}
+use Rattle.samples.specs.Layout.{widths}
 use Rattle.samples.specs.declared.edition.Edition.the-variants.{First}
-use Rattle.samples.specs.declared.sample.Sample.{Sample}
-use Rattle.counters.specs.Bank.{bit, copied, counting, grown}
+use Rattle.counters.specs.Bank.{bit, copied, grown}
 use Rattle.counters.specs.Bank.{each as Bank·each}
 use Rattle.counters.specs.Due.{disabling, due, enabling, selecting, selects}
 use Rattle.counters.specs.Due.{fieldOf as Kind·fieldOf}
@@ -23,7 +20,7 @@ use Rattle.counters.specs.declared.switches.Kind.{Kind}
 use Rattle.counters.specs.declared.switches.Kind.the-variants.{Slow, External, Software, Node}
 use Rattle.counters.specs.declared.switches.Switches.{Switches}
 use Rattle.counters.proofs.BitLaws.{bit-mod, disabled-bit, enabled-bit, high-bit, low-bit}
-use Rattle.queue.specs.Queue.{advanced, busy, emptyQueue, nextWord, sendMany, sendQueue, sendWords}
+use Rattle.queue.specs.Queue.{advanced, busy, emptyQueue, nextWord, sendMany, sendQueue}
 use Rattle.queue.specs.declared.queue.Queue.{Queue}
 use Rattle.chip.specs.Chip.{afterTicks, done, externalEvents, fresh, nodeTicks, read, readAt, readCounter, replied, send, sendInto, sendNow, timestampTicks, withBank, withControl, withQueue, withStamp, write, writeAt}
 use Rattle.chip.specs.Control.{csrOf, one, pair, waited}
@@ -32,17 +29,16 @@ use Rattle.chip.specs.Operation.{Operation, opReset, opWrite, opRead, opTicks, 
 use Rattle.chip.specs.Place.{placeOf, registerOf}
 use Rattle.chip.specs.Reply.{Told}
 use Rattle.chip.specs.declared.chip.Chip.{Chip}
-use Rattle.chip.specs.declared.place.Place.{Place}
 use Rattle.chip.specs.declared.place.Place.the-variants.{Beyond, Nowhere, Csr, Source, Trigger}
 use Rattle.chip.specs.declared.place.Place.the-variants.{Counter as Place·Counter}
 use Rattle.chip.specs.declared.reply.Reply.the-variants.{Busy, NoWord, Wait}
-use Rattle.history.specs.Ledger.{Counter, Entry, Ledger, byRange, cleared, configured, counted, counterRead, csrIn, each, eachFrom, enabled, muxOf, happened, held, isSet, left, noCounter, packed, readIn, readLow, resetAt, selected, sentMore, slowIn, tells, entryOf, turned, vacant, waitedOne, withCounters, withErrors, withSettings, withStream, withTicks, written, writtenLow}
+use Rattle.history.specs.Ledger.{Counter, Entry, Ledger, byRange, cleared, configured, counted, counterRead, csrIn, each, eachFrom, enabled, muxOf, happened, held, isSet, left, noCounter, packed, readIn, readLow, resetAt, selected, sentMore, slowIn, tells, entryOf, turned, vacant, waitedOne, withErrors, withSettings, withStream, withTicks, written, writtenLow}
 use Rattle.history.specs.Stream.{anyHeld, isFull, totalOf, wordsOfAll}
 use Rattle.history.proofs.Addresses.{by-place, range-beyond, range-counter, range-source, range-trigger, range-vacant}
 use Rattle.history.proofs.Agrees.{Agrees, Good, Kept, chipFor, controlOf, kept-guarded, switchesOf}
 use Rattle.history.proofs.CountLaws.{counted-value, each-length, each-same, packed-bit, packed-each, packed-lt, packed-same, phase-same, selects-number, slow-same, under, value-at, valueOf, values-each}
-use Rattle.history.proofs.HeldLaws.{Sixteen, words-total}
-use Rattle.history.proofs.HoldsLaws.{Holds, holds-advanced, holds-busy, holds-copied, holds-empty, holds-full, holds-none, holds-some, next-is, many}
+use Rattle.history.proofs.HeldLaws.{Sixteen}
+use Rattle.history.proofs.HoldsLaws.{Holds, holds-advanced, holds-busy, holds-copied, holds-empty, holds-full, holds-none, holds-some, next-is, many, many-count}
 use Rattle.history.proofs.Triggers.{told, trigger-kept}
 
 -- ---- settings
@@ -486,7 +482,7 @@ module _ (l : Ledger) (q : Queue) (sh : List ℕ) (g : Good l q sh) where
   unfolding sendEntry
   send-kept = go (eqb (q .held) 0) refl
     where
-      go : (b : Bool) → eqb (q .held) 0 ≡ b → Kept (sendEntry (eqb (left l) 0)) (cond b (replied NoWord (chipFor l q sh)) (done (nextWord firstChip sh q) (withQueue (advanced firstChip q) (chipFor l q sh))))
+      go : (b : Bool) → eqb (q .held) 0 ≡ b → Kept (sendEntry (eqb (left l) 0)) (cond b (replied NoWord (chipFor l q sh)) (done (nextWord (widths First) sh q) (withQueue (advanced (widths First) q) (chipFor l q sh))))
       go true e =
           let none : left l ≡ 0 = holds-none First (l .taken) (l .sent) sh q (g .holds) (eqb-true (q .held) 0 e) in
           subst (λ (b : Bool). Kept (sendEntry b) (replied NoWord (chipFor l q sh))) (sym (eq-eqb (left l) 0 none)) (same 5 0 _ refl refl refl)
@@ -494,21 +490,22 @@ module _ (l : Ledger) (q : Queue) (sh : List ℕ) (g : Good l q sh) where
           let f : q .held ≡ 0 → ⊥ = eqb-false (q .held) 0 e in
           let some : l .sent < totalOf First (l .taken) = holds-some First (l .taken) (l .sent) sh q (g .holds) f in
           let now : l .sent + 1 ≡ l .sent + min 1 (left l) = omega arith in
-          subst (λ (b : Bool). Kept (sendEntry b) (done (nextWord firstChip sh q) (withQueue (advanced firstChip q) (chipFor l q sh)))) (sym (ne-eqb (left l) 0 (λ z. omega arith)))
-          (sent-kept (min 1 (left l)) _ (advanced firstChip q) _
-          (subst (λ (n : ℕ). Holds First (l .taken) n sh (advanced firstChip q)) now (holds-advanced First (l .taken) (l .sent) sh q (g .holds) (g .sixteen) f))
+          subst (λ (b : Bool). Kept (sendEntry b) (done (nextWord (widths First) sh q) (withQueue (advanced (widths First) q) (chipFor l q sh)))) (sym (ne-eqb (left l) 0 (λ z. omega arith)))
+          (sent-kept (min 1 (left l)) _ (advanced (widths First) q) _
+          (subst (λ (n : ℕ). Holds First (l .taken) n sh (advanced (widths First) q)) now (holds-advanced First (l .taken) (l .sent) sh q (g .holds) (g .sixteen) f))
           refl
           refl
           (next-is First (l .taken) (l .sent) sh q (g .holds) (g .sixteen) f))
 
   -- a buffer send
-  fill-kept : (room : ℕ) → Kept (tells 0 (min room (left l)) (sentMore room l)) (done (sendMany firstChip room sh q .count) (withQueue (sendMany firstChip room sh q .queue) (chipFor l q sh)))
+  fill-kept : (room : ℕ) → Kept (tells 0 (min room (left l)) (sentMore room l)) (done (sendMany (widths First) room sh q .count) (withQueue (sendMany (widths First) room sh q .queue) (chipFor l q sh)))
   unfolding sendMany
   fill-kept room =
-      let x = many First (l .taken) (g .sixteen) sh room (l .sent) q (g .holds) in
-      let rest : length (drop (l .sent) (wordsOfAll First (l .taken))) ≡ left l = length-drop (l .sent) (wordsOfAll First (l .taken)) ∙ ap (λ (n : ℕ). n - l .sent) (words-total First (l .taken) (g .sixteen)) in
-      sent-kept (min room (left l)) (min room (left l)) (sendQueue firstChip room q) _ (x .1) refl refl
-      (ap length (x .0) ∙ length-take-le (min room (left l)) (drop (l .sent) (wordsOfAll First (l .taken))) (rw rest (omega arith)))
+      sent-kept (min room (left l)) (min room (left l)) (sendQueue (widths First) room q) _
+      (many First (l .taken) (g .sixteen) sh room (l .sent) q (g .holds) .1)
+      refl
+      refl
+      (many-count First (l .taken) (g .sixteen) sh room (l .sent) q (g .holds))
 
 -- every operation on a record that a ledger leaves
 pub step-kept : (op : Operation) (l : Ledger) (q : Queue) (sh : List ℕ) → Good l q sh → Kept (entryOf op l) (step op (chipFor l q sh))

@@ -1,14 +1,14 @@
 -- The words that the chip gave, and those it will give, are those of the ledger's samples. Assumes nothing.
-use Prim.Native.Nat.{ℕ, zero, suc, _+_, _-_, _*_, _%_, _^_, _≤_, _<_, min}
+use Prim.Native.Nat.{ℕ, zero, suc, _+_, _-_, _%_, _≤_, _<_, min}
 use native.Mathlib.Omega.{arith}
 use mathlib.Core.Path.{_≡_, refl, sym, ap, ap₂, _∙_, subst}
 use mathlib.Core.Bool.{Bool, true, false, cond}
 use mathlib.Core.List.{List, [], _∷_, _++_, append-nil}
 use lib.Dec.{eqb, leb, ltb}
-use lib.ListN.{length, take, drop, getD, replicate, length-drop, length-replicate, drop-of-length-le}
-use lib.Seq.{drop-cons, take-add, take-append-le, take-at, take-suc, length-take-le}
-use borrow.Author.Tests.{eqb-true, eqb-false, leb-true}
-use Rattle.samples.specs.Layout.{firstChip, resource, sampleWords}
+use lib.ListN.{length, take, drop, getD, replicate, length-replicate, drop-of-length-le}
+use lib.Seq.{drop-cons, take-add, take-append-le, take-at, take-suc}
+use borrow.Author.Tests.{eqb-true, eqb-false}
+use Rattle.samples.specs.Layout.{sampleWords, widths}
 use Rattle.samples.specs.declared.edition.Edition.the-variants.{First}
 use Rattle.samples.specs.declared.sample.Sample.{Sample}
 use Rattle.queue.specs.Queue.{sendBuffer, sendWords}
@@ -16,12 +16,12 @@ use Rattle.queue.specs.declared.queue.Queue.{Queue}
 use Rattle.chip.specs.Chip.{inside, sentBuffer}
 use Rattle.chip.specs.Operation.{Operation, opReset, opWrite, opRead, opTicks, opNodes, opEvents, opSend, opFill, step}
 use Rattle.chip.specs.declared.chip.Chip.{Chip}
-use Rattle.history.specs.Ledger.{Entry, Fate, Ledger, afterFate, byFate, byRange, fateIn, held, left, lineIn, readIn, readLow, resetAt, sampleIn, sentMore, tells, entryOf, triggered, vacant, wasFiltered, wasLost, wasOff, wasTaken, wasTold, written, writtenLow}
+use Rattle.history.specs.Ledger.{Entry, Fate, Ledger, afterFate, byFate, byRange, fateIn, held, left, lineIn, readIn, readLow, sampleIn, sentMore, tells, entryOf, triggered, vacant, wasFiltered, wasLost, wasOff, wasTaken, wasTold, written, writtenLow}
 use Rattle.history.specs.Run.{comeWithin, streamAfter}
-use Rattle.history.specs.Stream.{anyHeld, heldOf, lengthOf, totalOf, wordsOfAll}
+use Rattle.history.specs.Stream.{anyHeld, wordsOfAll}
 use Rattle.history.proofs.Agrees.{Agrees, Kept, chipFor, for-inside}
 use Rattle.history.proofs.HeldLaws.{words-more, words-total}
-use Rattle.history.proofs.HoldsLaws.{many}
+use Rattle.history.proofs.HoldsLaws.{many, many-count}
 use Rattle.history.proofs.Steps.{agrees-step}
 
 -- ---- the words sent so far
@@ -46,7 +46,7 @@ fate-stream wasFiltered r line bits l h = stay l _ refl refl
 fate-stream wasLost r line bits l h = stay l _ refl refl
 fate-stream wasTold r line bits l h = stay l _ refl refl
 fate-stream wasTaken r line bits l h =
-    record { is = ap (take (l .sent)) (words-more First (l .taken) (sampleIn r line bits l)) ∙ take-append-le (l .sent) (wordsOfAll First (l .taken)) (sampleWords firstChip (sampleIn r line bits l)) h }
+    record { is = ap (take (l .sent)) (words-more First (l .taken) (sampleIn r line bits l)) ∙ take-append-le (l .sent) (wordsOfAll First (l .taken)) (sampleWords (widths First) (sampleIn r line bits l)) h }
 
 trigger-stream : (r : Bool) (level bits lines : ℕ) (l : Ledger) → l .sent ≤ length (wordsOfAll First (l .taken)) → Stays l (triggered r level bits lines l)
 unfolding triggered
@@ -120,18 +120,17 @@ module _ (l : Ledger) (c : Chip) (a : Agrees l c) where
       let m : ℕ = min room (left l) in
       let k : Kept (entryOf (opFill room) l) (step (opFill room) c) = agrees-step (opFill room) l c a in
       let x = many First (l .taken) (a .good .sixteen) sh room (l .sent) q (a .good .holds) in
-      let rest : length (drop (l .sent) (wordsOfAll First (l .taken))) ≡ left l = length-drop (l .sent) (wordsOfAll First (l .taken)) ∙ ap (λ (n : ℕ). n - l .sent) (words-total First (l .taken) (a .good .sixteen)) in
-      let size : length (sendWords firstChip room sh q) ≡ m = ap length (x .0) ∙ length-take-le m (drop (l .sent) (wordsOfAll First (l .taken))) (rw rest (omega arith)) in
-      let buffer : sentBuffer c (replicate room 0) ≡ sendWords firstChip room sh q ++ drop (length (sendWords firstChip room sh q)) (replicate room 0) =
+      let size : length (sendWords (widths First) room sh q) ≡ m = many-count First (l .taken) (a .good .sixteen) sh room (l .sent) q (a .good .holds) in
+      let buffer : sentBuffer c (replicate room 0) ≡ sendWords (widths First) room sh q ++ drop (length (sendWords (widths First) room sh q)) (replicate room 0) =
       ap (λ (d : Chip). sentBuffer d (replicate room 0)) (a .is) ∙ filled q sh room (for-inside l q sh (a .good)) in
       ap₂ (λ (n : ℕ) (b : List ℕ). take (l .sent) (wordsOfAll First (l .taken)) ++ take n b) (k .value) buffer
-      ∙ ap (λ (b : List ℕ). take (l .sent) (wordsOfAll First (l .taken)) ++ b) (take-at (sendWords firstChip room sh q) (drop (length (sendWords firstChip room sh q)) (replicate room 0)) m size ∙ x .0)
+      ∙ ap (λ (b : List ℕ). take (l .sent) (wordsOfAll First (l .taken)) ++ b) (take-at (sendWords (widths First) room sh q) (drop (length (sendWords (widths First) room sh q)) (replicate room 0)) m size ∙ x .0)
       ∙ sym (take-add (l .sent) m (wordsOfAll First (l .taken)))
     where
-      filled : (q : Queue) (sh : List ℕ) (n : ℕ) → inside (chipFor l q sh) ≡ true → sentBuffer (chipFor l q sh) (replicate n 0) ≡ sendWords firstChip n sh q ++ drop (length (sendWords firstChip n sh q)) (replicate n 0)
+      filled : (q : Queue) (sh : List ℕ) (n : ℕ) → inside (chipFor l q sh) ≡ true → sentBuffer (chipFor l q sh) (replicate n 0) ≡ sendWords (widths First) n sh q ++ drop (length (sendWords (widths First) n sh q)) (replicate n 0)
       filled q sh n e =
-          ap (λ (b : Bool). cond b (sendBuffer firstChip sh q (replicate n 0)) (replicate n 0)) e
-          ∙ ap (λ (w : ℕ). sendWords firstChip w sh q ++ drop (length (sendWords firstChip w sh q)) (replicate n 0)) (length-replicate n 0)
+          ap (λ (b : Bool). cond b (sendBuffer (widths First) sh q (replicate n 0)) (replicate n 0)) e
+          ∙ ap (λ (w : ℕ). sendWords (widths First) w sh q ++ drop (length (sendWords (widths First) w sh q)) (replicate n 0)) (length-replicate n 0)
 
   pub stream-step : (op : Operation) (ws : List ℕ) → ws ≡ take (l .sent) (wordsOfAll First (l .taken)) → streamAfter op c ws ≡ take (entryOf op l .ledger .sent) (wordsOfAll First (entryOf op l .ledger .taken))
   unfolding streamAfter entryOf wordsOfAll written byRange vacant writtenLow

@@ -6,7 +6,7 @@ use mathlib.Core.Path.{_≡_, refl, sym, ap, ap₂, _∙_}
 use mathlib.Core.Bool.{Bool, true, false, cond}
 use mathlib.Core.List.{List, [], _∷_, _++_}
 use lib.Dec.{eqb, leb}
-use lib.ListN.{length, take, drop, getD, length-drop, take-append-drop, replicate}
+use lib.ListN.{length, take, drop, getD, take-append-drop, replicate}
 use lib.Seq.{take-all}
 use borrow.Author.Tests.{lt-ltb}
 use Rattle.samples.specs.declared.edition.Edition.the-variants.{First}
@@ -17,14 +17,14 @@ use Rattle.chip.specs.Shape.{Shaped}
 use Rattle.chip.specs.declared.chip.Chip.{Chip}
 use Rattle.chip.proofs.Bounds.{fresh-shaped, keeps-shaped}
 use Rattle.chip.proofs.Bounds.{never-15 as inside-never-15}
-use Rattle.history.specs.Ledger.{Entry, Fate, Ledger, byFate, fateIn, fateNumber, ledgerFrom, ledgerOf, left, lineIn, noCounter, resetAt, tells, entryOf, triggered, written}
+use Rattle.history.specs.Ledger.{Entry, Fate, Ledger, byFate, fateIn, fateNumber, ledgerFrom, ledgerOf, lineIn, noCounter, resetAt, tells, entryOf, triggered, written}
 use Rattle.history.specs.Run.{chipOf, comeWithin, runFrom, sentFrom, sentOf, toCome}
 use Rattle.history.specs.Stream.{totalOf, wordsOfAll}
 use Rattle.history.proofs.Addresses.{range-trigger}
 use Rattle.history.proofs.Agrees.{Agrees, for-inside}
 use Rattle.history.proofs.CountLaws.{value-at}
-use Rattle.history.proofs.HeldLaws.{left-bound, words-total}
-use Rattle.history.proofs.HoldsLaws.{held-count}
+use Rattle.history.proofs.HeldLaws.{words-left, words-total}
+use Rattle.history.proofs.HoldsLaws.{holds-left}
 use Rattle.history.proofs.Steps.{agrees-step, reset-good, reset-record}
 use Rattle.history.proofs.StreamLaws.{come-words, stream-step}
 
@@ -70,8 +70,8 @@ left-few : (ops : List Operation) → length (drop (ledgerOf ops .sent) (wordsOf
 left-few ops =
     let l : Ledger = ledgerOf ops in
     let a : Agrees l (chipOf ops) = agrees ops in
-    let rest : length (drop (l .sent) (wordsOfAll First (l .taken))) ≡ left l = length-drop (l .sent) (wordsOfAll First (l .taken)) ∙ ap (λ (n : ℕ). n - l .sent) (words-total First (l .taken) (a .good .sixteen)) in
-    omega (arith, left-bound First (l .taken) (l .sent), held-count First (l .taken) (l .sent) (a .shadows) (a .queue) (a .good .holds), a .good .holds .few)
+    omega
+    (arith, words-left First (l .taken) (l .sent) (a .good .sixteen), holds-left First (l .taken) (l .sent) (a .shadows) (a .queue) (a .good .holds))
 
 pub to-come : (ops : List Operation) → toCome (chipOf ops) ≡ drop (ledgerOf ops .sent) (wordsOfAll First (ledgerOf ops .taken))
 to-come ops = come-words 640 (ledgerOf ops) (chipOf ops) (agrees ops) ∙ take-all 640 (drop (ledgerOf ops .sent) (wordsOfAll First (ledgerOf ops .taken))) (left-few ops)

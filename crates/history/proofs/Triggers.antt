@@ -1,6 +1,5 @@
 -- A trigger does to the chip what its fate by the list says. Assumes nothing.
 use Prim.Native.Nat.{ℕ, _+_, _-_, _%_, _^_, _<_}
-use native.Mathlib.Omega.{arith}
 use mathlib.Core.Path.{_≡_, refl, sym, ap, ap₂, _∙_, subst}
 use mathlib.Core.Bool.{Bool, true, false, cond, _&&_, _||_, false≢true}
 use mathlib.Core.List.{List, [], _∷_, _++_, map}
@@ -15,8 +14,8 @@ use Rattle.counters.specs.Bank.{bit, copied}
 use Rattle.queue.specs.Queue.{busy, full, heldSample, pushed}
 use Rattle.queue.specs.declared.queue.Held.{Held}
 use Rattle.queue.specs.declared.queue.Queue.{Queue}
-use Rattle.chip.specs.Chip.{blocked, fateOf, headerOf, lacksRoom, lineOf, oneLine, replied, sampleNow, trigger, triggerBy, withControl}
-use Rattle.chip.specs.Control.{one, overran, waited}
+use Rattle.chip.specs.Chip.{blocked, fateOf, headerOf, lacksRoom, lineOf, replied, sampleNow, trigger, triggerBy, withControl}
+use Rattle.chip.specs.Control.{overran, waited}
 use Rattle.chip.specs.Control.{withErrors as Control·withErrors}
 use Rattle.chip.specs.Fate.{fate, isOff, isFiltered, isLost, isTold, isTaken}
 use Rattle.chip.specs.Fate.{Fate as Chip·Fate}

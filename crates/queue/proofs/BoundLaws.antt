@@ -13,7 +13,7 @@ use Rattle.queue.specs.Queue.{advanced, firstCount, firstHeld, insideQue
 use Rattle.queue.specs.declared.queue.Held.{Held}
 use Rattle.queue.specs.declared.queue.Queue.{Queue}
 
--- the places stay eight, with one sample more
+-- one sample more leaves eight places
 pub push-places : (h : Held) (q : Queue) → length (q .places) ≡ 8 → length (pushed h q .places) ≡ 8
 push-places h q e = go (ltb (q .held) 8)
   where
@@ -104,7 +104,7 @@ module _ (w : Widths) where
       go true p ih = e
       go false p ih = ih (advance-bounds q (eqb-false (q .held) 0 p) e)
 
-  -- and with any sends
+  -- the places stay eight
   pub advance-places : (q : Queue) → length (q .places) ≡ 8 → length (advanced w q .places) ≡ 8
   advance-places q e = go (ltb (q .sent + 1) (firstCount w q))
     where

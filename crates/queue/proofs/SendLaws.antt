@@ -28,7 +28,7 @@ module _ (w : Widths) where
     ap (λ (b : Bool). cond b q (sendQueue w n (advanced w q))) (eq-eqb (q .held) 0 e),
   )
 
-  -- one word where something is held
+  -- and then n more
   pub send-suc : (n : ℕ) (sh : List ℕ) (q : Queue) → (q .held ≡ 0 → ⊥) → (sendWords w (suc n) sh q ≡ nextWord w sh q ∷ sendWords w n sh (advanced w q)) × (sendQueue w (suc n) q ≡ sendQueue w n (advanced w q))
   unfolding sendWords sendQueue
   send-suc n sh q e = (

@@ -1,6 +1,6 @@
 // The held samples, and sending them word by word. A Resource sample's counters stand in the shadows, which it keeps busy.
 use samples::edition::Edition;
-use samples::edition::field_count;
+use samples::edition::trace_bytes;
 use samples::sample::counter_byte;
 use samples::sample::field_byte;
 use samples::sample::is_resource;
@@ -244,11 +244,11 @@ fn held_byte(edition: Edition, h: Held, shadows: [u32; 16], place: usize) -> u8
     requires { ⌜ place < sampleLength (widths edition) (resource (h .header)) ⌝ }
     ensures { λ r. ⌜ r ≡ getD (sampleBytes (widths edition) (heldSample shadows h)) place 0 ⌝ }
 {
-    let fields = field_count(edition);
-    if place < fields {
+    let first_counter = trace_bytes(edition);
+    if place < first_counter {
         return field_byte(edition, h.header, h.source, h.stamp, h.user, place);
     }
-    counter_byte(shadows, place - fields)
+    counter_byte(shadows, place - first_counter)
 }
 
 // Whether one of the first `held` places has a Resource sample.

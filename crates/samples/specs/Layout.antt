@@ -20,15 +20,11 @@ abbrev pub widths : Edition → Widths
 widths First = record { stampBytes = 5; userBytes = 6 }
 widths Second = record { stampBytes = 7; userBytes = 8 }
 
--- those of the MultiKron, which document 01 is about
-abbrev pub firstChip : Widths
-firstChip = widths First
-
 -- "bit 3 set for a Resource sample"
 abbrev pub resource : ℕ → Bool
 resource h = eqb (h / 8 % 2) 1
 
--- "header 1 byte, Source Address 4, Timestamp .. 5, user data .. 6": the bytes of each field
+-- "header 1 byte, Source Address 4, Timestamp .. 5, user data .. 6"; Wish 9: "Field order .. as in 01": the bytes of each field
 abbrev pub fieldWidths : Widths → List ℕ
 fieldWidths w = 1 ∷ 4 ∷ w .stampBytes ∷ w .userBytes ∷ []
 
@@ -66,6 +62,6 @@ abbrev pub total : List ℕ → ℕ
 total [] = 0
 total (n ∷ ns) = n + total ns
 
--- "That is 16 bytes. A Resource sample adds ..: 80"
+-- "That is 16 bytes. A Resource sample adds ..: 80"; Wish 9: "Samples are 20 and 84 bytes"
 abbrev pub sampleLength : Widths → Bool → ℕ
 sampleLength w r = total (fieldWidths w) + cond r (total counterWidths) 0

@@ -32,22 +32,22 @@ lastOf Second resource = cond resource 83 19
 
 -- the last place by the header: a Resource sample's where bit 3 is set, that is where its low four bits are at least 8
 abbrev pub lastPlace : Edition → ℕ → ℕ
-lastPlace e header = lastOf e (leb 8 (header % 16))
+lastPlace ed header = lastOf ed (leb 8 (header % 16))
 
 -- "Fields in sending order, each low byte first"; "A Resource sample adds counters 0 to 15, 4 bytes each"; Wish 9: "Field order, byte order
 -- and header stay as in 01"
-pub record Placed (e : Edition) (s : Sample) (bytes : List ℕ) : Type 0 where
-  pub size : length bytes ≡ lastPlace e (s .header) + 1
+pub record Placed (ed : Edition) (s : Sample) (bytes : List ℕ) : Type 0 where
+  pub size : length bytes ≡ lastPlace ed (s .header) + 1
   pub header : getD bytes 0 0 ≡ nthByte (s .header) 0
   pub source : (k : ℕ) → k < 4 → getD bytes (1 + k) 0 ≡ nthByte (s .source) k
-  pub stamp : (k : ℕ) → 5 + k < userPlace e → getD bytes (5 + k) 0 ≡ nthByte (s .stamp) k
-  pub user : (k : ℕ) → userPlace e + k < counterPlace e → getD bytes (userPlace e + k) 0 ≡ nthByte (s .user) k
-  pub counter : (i k : ℕ) → 8 ≤ s .header % 16 → i < 16 → k < 4 → getD bytes (counterPlace e + 4 * i + k) 0 ≡ nthByte (getD (s .counters) i 0) k
+  pub stamp : (k : ℕ) → 5 + k < userPlace ed → getD bytes (5 + k) 0 ≡ nthByte (s .stamp) k
+  pub user : (k : ℕ) → userPlace ed + k < counterPlace ed → getD bytes (userPlace ed + k) 0 ≡ nthByte (s .user) k
+  pub counter : (i k : ℕ) → 8 ≤ s .header % 16 → i < 16 → k < 4 → getD bytes (counterPlace ed + 4 * i + k) 0 ≡ nthByte (getD (s .counters) i 0) k
 
 -- "data bits 0..7, parity bit 8, end mark bit 9. Bits 0..8 together have an odd number of ones. The end mark is set on the last word only."
 -- `onesIn 9` counts the ones of bits 0 to 8, and a word divided by 512 is its bit 9 and whatever stands above it: nothing.
-pub record PlacedWords (e : Edition) (s : Sample) (words : List ℕ) : Type 0 where
-  pub bytes : Placed e s (map (λ (w : ℕ). w % 256) words)
-  pub odd : (p : ℕ) → p ≤ lastPlace e (s .header) → onesIn 9 (getD words p 0) % 2 ≡ 1
-  pub last : getD words (lastPlace e (s .header)) 0 / 512 ≡ 1
-  pub others : (p : ℕ) → p < lastPlace e (s .header) → getD words p 0 / 512 ≡ 0
+pub record PlacedWords (ed : Edition) (s : Sample) (words : List ℕ) : Type 0 where
+  pub bytes : Placed ed s (map (λ (w : ℕ). w % 256) words)
+  pub odd : (p : ℕ) → p ≤ lastPlace ed (s .header) → onesIn 9 (getD words p 0) % 2 ≡ 1
+  pub last : getD words (lastPlace ed (s .header)) 0 / 512 ≡ 1
+  pub others : (p : ℕ) → p < lastPlace ed (s .header) → getD words p 0 / 512 ≡ 0

@@ -28,8 +28,8 @@ pub fn user_bytes(edition: Edition) -> usize
     }
 }
 
-// How many bytes the four fields have that every sample has.
-pub fn field_count(edition: Edition) -> usize
+// How many bytes a Trace sample has: the four fields of every sample. A Resource sample's counters come after them.
+pub fn trace_bytes(edition: Edition) -> usize
     ensures { λ r. ⌜ r ≡ total (fieldWidths (widths edition)) ⌝ }
 {
     5 + stamp_bytes(edition) + user_bytes(edition)

@@ -1,7 +1,7 @@
 // The reader: the first sample of a part of a stream.
 use super::edition::Edition;
-use super::edition::field_count;
 use super::edition::stamp_bytes;
+use super::edition::trace_bytes;
 use super::edition::user_bytes;
 use super::sample::Sample;
 use super::sample::is_resource;
@@ -147,7 +147,7 @@ fn decode(edition: Edition, part: &[u16]) -> Sample
             stamp,
             source,
             header,
-            counters: counters_of(part, field_count(edition)),
+            counters: counters_of(part, trace_bytes(edition)),
         };
     }
     Sample {

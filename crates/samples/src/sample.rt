@@ -1,7 +1,7 @@
 // A sample by value, and the byte at each of its places.
 use super::edition::Edition;
-use super::edition::field_count;
 use super::edition::stamp_bytes;
+use super::edition::trace_bytes;
 use words::byte::byte_at;
 ghost use mathlib.Core.Path.{_≡_};
 ghost use lib.ListN.{getD};
@@ -42,11 +42,11 @@ pub fn is_resource(header: u32) -> bool
 pub fn word_count(edition: Edition, header: u32) -> usize
     ensures { λ r. ⌜ r ≡ sampleLength (widths edition) (resource header) ⌝ }
 {
-    let fields = field_count(edition);
+    let trace = trace_bytes(edition);
     if is_resource(header) {
-        fields + 64
+        trace + 64
     } else {
-        fields
+        trace
     }
 }
 
@@ -71,7 +71,7 @@ pub fn field_byte(
     if place < after_stamp {
         return byte_at(stamp, place - 5);
     }
-    if place < field_count(edition) {
+    if place < trace_bytes(edition) {
         return byte_at(user, place - after_stamp);
     }
     0
@@ -93,8 +93,8 @@ pub fn counter_byte(counters: [u32; 16], place: usize) -> u8
 pub fn sample_byte(edition: Edition, sample: Sample, place: usize) -> u8
     ensures { λ r. ⌜ r ≡ getD (sampleBytes (widths edition) sample) place 0 ⌝ }
 {
-    let fields = field_count(edition);
-    if place < fields {
+    let first_counter = trace_bytes(edition);
+    if place < first_counter {
         return field_byte(
             edition,
             sample.header,
@@ -106,7 +106,7 @@ pub fn sample_byte(edition: Edition, sample: Sample, place: usize) -> u8
     }
     if is_resource(sample.header) {
         let counters = sample.counters;
-        return counter_byte(counters, place - fields);
+        return counter_byte(counters, place - first_counter);
     }
     0
 }

@@ -53,7 +53,7 @@ pub fn can_write(edition: Edition, sample: Sample) -> bool
     if 32 <= sample.header {
         return false;
     }
-    if stamp_limit(edition) <= sample.stamp {
+    if stamp_above(edition, sample.stamp) {
         return false;
     }
     if user_above(edition, sample.user) {
@@ -66,17 +66,17 @@ pub fn can_write(edition: Edition, sample: Sample) -> bool
     all_zero(counters)
 }
 
-// The first number above the Timestamp's width.
-fn stamp_limit(edition: Edition) -> u64
-    ensures { λ r. ⌜ r ≡ 256 ^ widths edition .stampBytes ⌝ }
+// Whether a Timestamp is above its width.
+fn stamp_above(edition: Edition, stamp: u64) -> bool
+    ensures { λ r. ⌜ r ≡ leb (256 ^ widths edition .stampBytes) stamp ⌝ }
 {
     match edition {
-        Edition::First => TWO_40,
-        Edition::Second => TWO_56,
+        Edition::First => TWO_40 <= stamp,
+        Edition::Second => TWO_56 <= stamp,
     }
 }
 
-// Whether user data is above its width: the second edition's has every number of 64 bits.
+// Whether user data is above its width: no number of 64 bits is above the second edition's.
 fn user_above(edition: Edition, user: u64) -> bool
     ensures { λ r. ⌜ r ≡ leb (256 ^ widths edition .userBytes) user ⌝ }
 {

@@ -18,8 +18,8 @@ past-fields : (w : Widths) (r : Bool) (place : ℕ) → total (fieldWidths w) �
 past-fields w true place h k = refl
 past-fields w false place h k = absurd (lt-irrefl place (omega arith))
 
-field-count-requires : tie.Need-field-count-requires
-field-count-requires c κs = search needs
+trace-bytes-requires : tie.Need-trace-bytes-requires
+trace-bytes-requires c κs = search needs
 
 field-byte-requires : tie.Need-field-byte-requires
 field-byte-requires c κs = search needs
@@ -29,7 +29,7 @@ returns c =
     let f = c .before .before in
     let a = f .before .args in
     c .field-byte .ensures
-    ∙ sym (sample-before (widths (a .edition)) (heldSample (a .shadows) (a .h)) (a .place) (omega (arith, f .field-count .ensures)))
+    ∙ sym (sample-before (widths (a .edition)) (heldSample (a .shadows) (a .h)) (a .place) (omega (arith, f .trace-bytes .ensures)))
 
 counter-byte-requires : tie.Need-counter-byte-requires
 counter-byte-requires c κs = search needs
@@ -38,11 +38,11 @@ returns-2 : tie.Need-returns-2
 returns-2 c =
     let f = c .before .before in
     let a = f .before .args in
-    let long : resource (a .h .header) ≡ true = past-fields (widths (a .edition)) (resource (a .h .header)) (a .place) (omega (arith, f .field-count .ensures)) (f .before .pre) in
+    let long : resource (a .h .header) ≡ true = past-fields (widths (a .edition)) (resource (a .h .header)) (a .place) (omega (arith, f .trace-bytes .ensures)) (f .before .pre) in
     c .counter-byte .ensures
-    ∙ ap (λ (b : Bool). getD (counterBytes (cond b (a .shadows) (replicate 16 0))) (a .place - f .field-count .result) 0) (sym long)
+    ∙ ap (λ (b : Bool). getD (counterBytes (cond b (a .shadows) (replicate 16 0))) (a .place - f .trace-bytes .result) 0) (sym long)
     ∙ sym
-    (sample-after (widths (a .edition)) (heldSample (a .shadows) (a .h)) (a .place) (f .field-count .result) (f .field-count .ensures) (search needs) long)
+    (sample-after (widths (a .edition)) (heldSample (a .shadows) (a .h)) (a .place) (f .trace-bytes .result) (f .trace-bytes .ensures) (search needs) long)
 
 pub held-byte-spec : {M : Type 1} → statement M
-held-byte-spec = tie.close (tie.spec field-count-requires field-byte-requires returns counter-byte-requires returns-2)
+held-byte-spec = tie.close (tie.spec trace-bytes-requires field-byte-requires returns counter-byte-requires returns-2)

@@ -30,7 +30,7 @@ stamp-bytes-requires : tie.Need-stamp-bytes-requires
 stamp-bytes-requires c κs = search needs
 
 add-after-stamp : tie.Need-add-after-stamp
-add-after-stamp c = omega (arith, c .stamp-bytes .ensures, stamp-few (c .before .before .before .args .edition) .1)
+add-after-stamp c = omega (arith, c .stamp-bytes .ensures, stamp-few (c .before .before .before .args .edition))
 
 byte-at-requires-3 : tie.Need-byte-at-requires-3
 byte-at-requires-3 c κs = search needs
@@ -44,8 +44,8 @@ returns-3 c =
     (at-field (widths (a .edition)) (a .header) (a .source) (a .stamp) (a .user) 2 (a .place) (a .place - 5)
     (omega (arith, d .stamp-bytes .ensures)) (omega arith))
 
-field-count-requires : tie.Need-field-count-requires
-field-count-requires c κs = search needs
+trace-bytes-requires : tie.Need-trace-bytes-requires
+trace-bytes-requires c κs = search needs
 
 byte-at-requires-4 : tie.Need-byte-at-requires-4
 byte-at-requires-4 c κs = search needs
@@ -58,13 +58,13 @@ returns-4 c =
     c .byte-at4 .ensures
     ∙ sym
     (at-field (widths (a .edition)) (a .header) (a .source) (a .stamp) (a .user) 3 (a .place) (a .place - (5 + d .stamp-bytes .result))
-    (omega (arith, d .stamp-bytes .ensures, f .field-count .ensures)) (omega (arith, d .stamp-bytes .ensures)))
+    (omega (arith, d .stamp-bytes .ensures, f .trace-bytes .ensures)) (omega (arith, d .stamp-bytes .ensures)))
 
 returns-5 : tie.Need-returns-5
 returns-5 c =
     let f = c .before in
     let a = f .before .before .before .before .before .args in
-    sym (at-none (widths (a .edition)) (a .header) (a .source) (a .stamp) (a .user) (a .place) (omega (arith, f .field-count .ensures)))
+    sym (at-none (widths (a .edition)) (a .header) (a .source) (a .stamp) (a .user) (a .place) (omega (arith, f .trace-bytes .ensures)))
 
 pub field-byte-spec : {M : Type 1} → statement M
 field-byte-spec =
@@ -78,7 +78,7 @@ field-byte-spec =
     add-after-stamp
     byte-at-requires-3
     returns-3
-    field-count-requires
+    trace-bytes-requires
     byte-at-requires-4
     returns-4
     returns-5)

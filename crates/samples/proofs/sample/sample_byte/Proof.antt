@@ -7,8 +7,8 @@ use Rattle.samples.proofs.SampleLaws.{sample-before, sample-after, samp
 use Rattle.samples.proofs.sample.sample_byte.Statement.{statement}
 use Rattle.samples.proofs.sample.sample_byte.Tie as tie
 
-field-count-requires : tie.Need-field-count-requires
-field-count-requires c κs = search needs
+trace-bytes-requires : tie.Need-trace-bytes-requires
+trace-bytes-requires c κs = search needs
 
 field-byte-requires : tie.Need-field-byte-requires
 field-byte-requires c κs = search needs
@@ -17,7 +17,7 @@ returns : tie.Need-returns
 returns c =
     let f = c .before .before in
     let a = f .before .args in
-    c .field-byte .ensures ∙ sym (sample-before (widths (a .edition)) (a .sample) (a .place) (omega (arith, f .field-count .ensures)))
+    c .field-byte .ensures ∙ sym (sample-before (widths (a .edition)) (a .sample) (a .place) (omega (arith, f .trace-bytes .ensures)))
 
 is-resource-requires : tie.Need-is-resource-requires
 is-resource-requires c κs = search needs
@@ -32,7 +32,7 @@ returns-2 c =
     let a = f .before .args in
     c .counter-byte .ensures
     ∙ sym
-    (sample-after (widths (a .edition)) (a .sample) (a .place) (f .field-count .result) (f .field-count .ensures) (search needs)
+    (sample-after (widths (a .edition)) (a .sample) (a .place) (f .trace-bytes .result) (f .trace-bytes .ensures) (search needs)
     (sym (r .is-resource .ensures) ∙ c .before .before .if2 .taken))
 
 returns-3 : tie.Need-returns-3
@@ -41,14 +41,14 @@ returns-3 c =
     let f = r .before .before in
     let a = f .before .args in
     sym
-    (sample-trace (widths (a .edition)) (a .sample) (a .place) (omega (arith, f .field-count .ensures))
+    (sample-trace (widths (a .edition)) (a .sample) (a .place) (omega (arith, f .trace-bytes .ensures))
     (sym (r .is-resource .ensures) ∙ c .if2 .left))
 
 pub sample-byte-spec : {M : Type 1} → statement M
 sample-byte-spec =
     tie.close
     (tie.spec
-    field-count-requires
+    trace-bytes-requires
     field-byte-requires
     returns
     is-resource-requires

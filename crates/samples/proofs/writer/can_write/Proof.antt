@@ -1,7 +1,6 @@
 -- `samples::writer::can_write` meets its contract: what the types don't bound is tested, and the counters of a Trace sample decide last.
 -- Assumes nothing.
 use borrow.Author.Needs.{needs}
-use native.Mathlib.Omega.{arith}
 use Prim.Native.Nat.{ℕ, _<_, _^_}
 use mathlib.Core.Path.{_≡_, sym, ap, _∙_}
 use mathlib.Core.Bool.{Bool, true, _||_}
@@ -18,14 +17,16 @@ use Rattle.samples.proofs.writer.can_write.Tie as tie
 returns : tie.Need-returns
 returns c = let a = c .before .before .args in sym (refuse-header (widths (a .edition)) (a .sample) (search needs))
 
-stamp-limit-requires : tie.Need-stamp-limit-requires
-stamp-limit-requires c κs = search needs
+stamp-above-requires : tie.Need-stamp-above-requires
+stamp-above-requires c κs = search needs
 
 returns-2 : tie.Need-returns-2
 returns-2 c =
-    let l = c .before .before in
+    let l = c .before in
     let a = l .before .before .before .args in
-    sym (refuse-field (widths (a .edition)) (a .sample) 2 (omega (arith, l .stamp-limit .ensures)))
+    sym
+    (refuse-field (widths (a .edition)) (a .sample) 2
+    (leb-true (256 ^ widths (a .edition) .stampBytes) (a .sample .stamp) (sym (l .stamp-above .ensures) ∙ c .if2 .taken)))
 
 user-above-requires : tie.Need-user-above-requires
 user-above-requires c κs = search needs
@@ -33,7 +34,7 @@ user-above-requires c κs = search needs
 returns-3 : tie.Need-returns-3
 returns-3 c =
     let u = c .before in
-    let a = u .before .before .before .before .before .before .args in
+    let a = u .before .before .before .before .before .args in
     sym
     (refuse-field (widths (a .edition)) (a .sample) 3
     (leb-true (256 ^ widths (a .edition) .userBytes) (a .sample .user) (sym (u .user-above .ensures) ∙ c .if3 .taken)))
@@ -49,22 +50,22 @@ counters-fit c =
     within-each 4 16 cs (search needs) fit
 
 -- what is tested before the counters leaves the answer to them
-decided : (c : tie.After-is-resource) → writable (widths (c .before .before .before .before .before .before .before .before .args .edition)) (c .before .before .before .before .before .before .before .before .args .sample) ≡ (c .is-resource .result || allZero (c .before .before .before .before .before .before .before .before .args .sample .counters))
+decided : (c : tie.After-is-resource) → writable (widths (c .before .before .before .before .before .before .before .args .edition)) (c .before .before .before .before .before .before .before .args .sample) ≡ (c .is-resource .result || allZero (c .before .before .before .before .before .before .before .args .sample .counters))
 decided c =
     let u = c .before .before in
-    let l = u .before .before .before in
+    let l = u .before .before in
     let a = l .before .before .before .args in
     let s = a .sample in
     let w = widths (a .edition) in
     counters-decide w s (search needs) (search needs)
-    (omega (arith, l .stamp-limit .ensures))
+    (leb-false (256 ^ w .stampBytes) (s .stamp) (sym (l .stamp-above .ensures) ∙ u .before .if2 .left))
     (leb-false (256 ^ w .userBytes) (s .user) (sym (u .user-above .ensures) ∙ c .before .if3 .left))
     (counters-fit (l .before .before))
     ∙ ap (λ (r : Bool). r || allZero (s .counters)) (sym (c .is-resource .ensures))
 
 returns-4 : tie.Need-returns-4
 returns-4 c =
-    let cs = c .before .before .before .before .before .before .before .before .before .args .sample .counters in
+    let cs = c .before .before .before .before .before .before .before .before .args .sample .counters in
     sym (decided (c .before) ∙ ap (λ (r : Bool). r || allZero cs) (c .if4 .taken))
 
 all-zero-requires : tie.Need-all-zero-requires
@@ -73,7 +74,7 @@ all-zero-requires c κs = search needs
 returns-5 : tie.Need-returns-5
 returns-5 c =
     let r = c .before .before .before in
-    let cs = r .before .before .before .before .before .before .before .before .args .sample .counters in
+    let cs = r .before .before .before .before .before .before .before .args .sample .counters in
     sym (decided r ∙ ap (λ (b : Bool). b || allZero cs) (c .before .before .if4 .left) ∙ sym (c .all-zero .ensures))
 
 pub can-write-spec : {M : Type 1} → statement M
@@ -81,7 +82,7 @@ can-write-spec =
     tie.close
     (tie.spec
     returns
-    stamp-limit-requires
+    stamp-above-requires
     returns-2
     user-above-requires
     returns-3
