@@ -110,7 +110,7 @@ VERSIONS = {
             ('crates/queue/proofs/queue/Queue/pushed/Proof.antt', 'rw (lt-ltb (c .before .before .before .args .self .held) 8', 'rw (lt-ltb (c .before .before .before .args .self .held) 1'),
             ('crates/queue/proofs/queue/Queue/pushed/Proof.antt', 'rw (le-ltb (c .before .args .self .held) 8', 'rw (le-ltb (c .before .args .self .held) 1'),
             ('crates/queue/proofs/BoundLaws.antt', 'push-bounds h q e = go (ltb (q .held) 8) refl', 'push-bounds h q e = go (ltb (q .held) 1) refl'),
-            ('crates/queue/proofs/BoundLaws.antt', 'go : (b : Bool) → ltb (q .held) 8 ≡ b → insideQueue (cond b more q)', 'go : (b : Bool) → ltb (q .held) 1 ≡ b → insideQueue (cond b more q)'),
+            ('crates/queue/proofs/BoundLaws.antt', 'go : (b : Bool) → ltb (q .held) 8 ≡ b → insideQueue w (cond b more q)', 'go : (b : Bool) → ltb (q .held) 1 ≡ b → insideQueue w (cond b more q)'),
             ('crates/queue/proofs/BoundLaws.antt', 'few = omega (arith, ltb-true (q .held) 8 t)', 'few = omega (arith, ltb-true (q .held) 1 t)'),
             ('crates/queue/proofs/BoundLaws.antt', 'push-places h q e = go (ltb (q .held) 8)', 'push-places h q e = go (ltb (q .held) 1)'),
             ('crates/history/proofs/HoldsLaws.antt', '(sym (lt-ltb (q .held) 8 room))', '(sym (lt-ltb (q .held) 1 room))'),

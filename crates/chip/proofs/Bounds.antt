@@ -9,7 +9,8 @@ use mathlib.Core.Bool.{Bool, true, false, cond, not, _&&_, and-false}
 use lib.Dec.{eqb}
 use lib.ListN.{getD, length}
 use borrow.Author.Tests.{eqb-false}
-use Rattle.samples.specs.Layout.{counterWidths}
+use Rattle.samples.specs.Layout.{counterWidths, widths}
+use Rattle.samples.specs.declared.edition.Edition.the-variants.{First}
 use Rattle.samples.specs.Write.{within}
 use Rattle.counters.specs.Bank.{bit, cleared, copied, counting, grown}
 use Rattle.counters.specs.Due.{due, signalled, slowEvents, ticked}
@@ -41,14 +42,14 @@ use Rattle.chip.proofs.WidthLaws.{each-within, within-set}
 -- ---- the bounds of a record with another part
 
 -- another queue inside its bounds
-inside-queued : (c : Chip) (q : Queue) → inside c ≡ true → insideQueue q ≡ true → inside (withQueue q c) ≡ true
+inside-queued : (c : Chip) (q : Queue) → inside c ≡ true → insideQueue (widths First) q ≡ true → inside (withQueue q c) ≡ true
 inside-queued c q h k = inside-by (withQueue q c) k (inside-phase c h) (inside-stamp c h)
 
 -- a sample taken
 take-inside : (r : Bool) (line bits : ℕ) (c : Chip) → inside c ≡ true → inside (takeSample r line bits c) ≡ true
 take-inside r line bits c h =
     let sample : Held = sampleNow r line bits c in
-    inside-queued c (pushed sample (c .queue)) h (push-bounds sample (c .queue) (inside-queue c h))
+    inside-queued c (pushed sample (c .queue)) h (push-bounds (widths First) sample (c .queue) (inside-queue c h))
 
 -- ---- "a fresh chip is inside them"
 
@@ -134,12 +135,12 @@ keeps-inside (opNodes k) c h = guarded-keeps (λ d. inside d ≡ true) (inside c
 keeps-inside (opEvents mask) c h = guarded-keeps (λ d. inside d ≡ true) (inside c) c (done 0 (withBank (signalled mask (c .switches) (c .bank)) c)) h h
 keeps-inside opSend c h = guarded-keeps (λ d. inside d ≡ true) (inside c) c (sendNow c) h (go (eqb (c .queue .held) 0) refl)
   where
-    go : (n : Bool) → eqb (c .queue .held) 0 ≡ n → inside (cond n (replied NoWord c) (done (nextWord (c .bank .shadows) (c .queue)) (withQueue (advanced (c .queue)) c)) .chip) ≡ true
+    go : (n : Bool) → eqb (c .queue .held) 0 ≡ n → inside (cond n (replied NoWord c) (done (nextWord (widths First) (c .bank .shadows) (c .queue)) (withQueue (advanced (widths First) (c .queue)) c)) .chip) ≡ true
     go true e = h
-    go false e = inside-queued c (advanced (c .queue)) h (advance-bounds (c .queue) (eqb-false (c .queue .held) 0 e) (inside-queue c h))
+    go false e = inside-queued c (advanced (widths First) (c .queue)) h (advance-bounds (widths First) (c .queue) (eqb-false (c .queue .held) 0 e) (inside-queue c h))
 keeps-inside (opFill room) c h =
-    guarded-keeps (λ d. inside d ≡ true) (inside c) c (done _ (withQueue (sendQueue room (c .queue)) c)) h
-    (inside-queued c (sendQueue room (c .queue)) h (send-bounds room (c .queue) (inside-queue c h)))
+    guarded-keeps (λ d. inside d ≡ true) (inside c) c (done _ (withQueue (sendQueue (widths First) room (c .queue)) c)) h
+    (inside-queued c (sendQueue (widths First) room (c .queue)) h (send-bounds (widths First) room (c .queue) (inside-queue c h)))
 
 -- the lengths and widths
 grow-below : (b : Bool) (v k : ℕ) → v < 256 ^ 4 → cond b (grown v k) v < 256 ^ 4
@@ -224,12 +225,12 @@ keeps-shaped (opEvents mask) c s =
     (counting-shaped (λ i. bit mask i && due External (c .switches) i) 1 c s)
 keeps-shaped opSend c s = guarded-keeps Shaped (inside c) c (sendNow c) s (go (eqb (c .queue .held) 0))
   where
-    go : (n : Bool) → Shaped (cond n (replied NoWord c) (done (nextWord (c .bank .shadows) (c .queue)) (withQueue (advanced (c .queue)) c)) .chip)
+    go : (n : Bool) → Shaped (cond n (replied NoWord c) (done (nextWord (widths First) (c .bank .shadows) (c .queue)) (withQueue (advanced (widths First) (c .queue)) c)) .chip)
     go true = s
-    go false = shaped-queue c (advanced (c .queue)) s (advance-places (c .queue) (s .places))
+    go false = shaped-queue c (advanced (widths First) (c .queue)) s (advance-places (widths First) (c .queue) (s .places))
 keeps-shaped (opFill room) c s =
-    guarded-keeps Shaped (inside c) c (done _ (withQueue (sendQueue room (c .queue)) c)) s
-    (shaped-queue c (sendQueue room (c .queue)) s (send-places room (c .queue) (s .places)))
+    guarded-keeps Shaped (inside c) c (done _ (withQueue (sendQueue (widths First) room (c .queue)) c)) s
+    (shaped-queue c (sendQueue (widths First) room (c .queue)) s (send-places (widths First) room (c .queue) (s .places)))
 
 -- so 15 is never replied on the way
 pub never-15 : (op : Operation) (c : Chip) → inside c ≡ true → eqb (step op c .number) 15 ≡ false

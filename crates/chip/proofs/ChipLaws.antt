@@ -5,6 +5,8 @@ use mathlib.Core.Bool.{Bool, true, false, cond, _&&_}
 use lib.Dec.{ltb}
 use borrow.Author.Tests.{lt-ltb, ltb-true}
 use Rattle.samples.proofs.Gather.{both-left, both-right}
+use Rattle.samples.specs.Layout.{widths}
+use Rattle.samples.specs.declared.edition.Edition.the-variants.{First}
 use Rattle.queue.specs.Queue.{insideQueue}
 use Rattle.control.specs.declared.reply.Reply.the-variants.{Outside}
 use Rattle.chip.specs.Chip.{guarded, inside, replied}
@@ -24,14 +26,14 @@ by-bounds P false c a p q = q
 
 -- what the bounds say of each part
 module _ (c : Chip) (h : inside c ≡ true) where
-  pub inside-queue : insideQueue (c .queue) ≡ true
+  pub inside-queue : insideQueue (widths First) (c .queue) ≡ true
   inside-queue = both-left _ _ h
 
   pub inside-phase : c .switches .phase < 10
-  inside-phase = ltb-true _ _ (both-left _ _ (both-right (insideQueue (c .queue)) _ h))
+  inside-phase = ltb-true _ _ (both-left _ _ (both-right (insideQueue (widths First) (c .queue)) _ h))
 
   pub inside-stamp : c .stamp < 2 ^ 56
-  inside-stamp = ltb-true _ _ (both-right (ltb (c .switches .phase) 10) _ (both-right (insideQueue (c .queue)) _ h))
+  inside-stamp = ltb-true _ _ (both-right (ltb (c .switches .phase) 10) _ (both-right (insideQueue (widths First) (c .queue)) _ h))
 
-pub inside-by : (c : Chip) → insideQueue (c .queue) ≡ true → c .switches .phase < 10 → c .stamp < 2 ^ 56 → inside c ≡ true
+pub inside-by : (c : Chip) → insideQueue (widths First) (c .queue) ≡ true → c .switches .phase < 10 → c .stamp < 2 ^ 56 → inside c ≡ true
 inside-by c q p s = λ i. q i && (lt-ltb (c .switches .phase) 10 p i && lt-ltb (c .stamp) (2 ^ 56) s i)

@@ -4,6 +4,8 @@ use mathlib.Core.Path.{_≡_, refl, sym, ap, subst, _∙_}
 use mathlib.Core.Bool.{Bool, true, false, cond, _&&_, false≢true}
 use lib.Dec.{leb, eqb}
 use borrow.Author.Tests.{lt-leb, ne-eqb}
+use Rattle.samples.specs.Layout.{widths}
+use Rattle.samples.specs.declared.edition.Edition.the-variants.{First}
 use Rattle.queue.specs.Queue.{advanced, busy, full, nextWord}
 use Rattle.control.specs.Control.{overran, waited}
 use Rattle.control.specs.Fate.{Fate, isOff, isFiltered, isLost, isTold, isTaken}
@@ -128,7 +130,7 @@ kept (opNodes k) c = kept-guard false (inside c) c (done 0 _) tt
 kept (opEvents mask) c = kept-guard false (inside c) c (done 0 _) tt
 kept opSend c = kept-guard false (inside c) c (sendNow c) (go (eqb (c .queue .held) 0))
   where
-    go : (n : Bool) → KeptBy false c (cond n (replied NoWord c) (done (nextWord (c .bank .shadows) (c .queue)) (withQueue (advanced (c .queue)) c)))
+    go : (n : Bool) → KeptBy false c (cond n (replied NoWord c) (done (nextWord (widths First) (c .bank .shadows) (c .queue)) (withQueue (advanced (widths First) (c .queue)) c)))
     go true = (refl, refl)
     go false = tt
 kept (opFill room) c = kept-guard false (inside c) c (done _ _) tt

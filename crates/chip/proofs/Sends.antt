@@ -8,6 +8,8 @@ use mathlib.Core.List.{List, [], _∷_, _++_}
 use lib.Dec.{eqb}
 use lib.ListN.{drop, length}
 use borrow.Author.Tests.{eq-eqb, eqb-false, eqb-true, ne-eqb}
+use Rattle.samples.specs.Layout.{widths}
+use Rattle.samples.specs.declared.edition.Edition.the-variants.{First}
 use Rattle.queue.specs.Queue.{advanced, nextWord, sendBuffer, sendMany, sendQueue, sendWords}
 use Rattle.queue.specs.declared.queue.Queue.{Queue}
 use Rattle.queue.proofs.CountLaws.{words-all, words-most, words-queue}
@@ -28,70 +30,70 @@ module _ (c : Chip) (h : inside c ≡ true) where
   unfolding send
   send-empty e =
       sym (guard-in c (sendNow c) h)
-      ∙ ap (λ (b : Bool). cond b (replied NoWord c) (done (nextWord (c .bank .shadows) (c .queue)) (withQueue (advanced (c .queue)) c))) (eq-eqb (c .queue .held) 0 e)
+      ∙ ap (λ (b : Bool). cond b (replied NoWord c) (done (nextWord (widths First) (c .bank .shadows) (c .queue)) (withQueue (advanced (widths First) (c .queue)) c))) (eq-eqb (c .queue .held) 0 e)
 
-  pub send-word : (c .queue .held ≡ 0 → ⊥) → step opSend c ≡ done (nextWord (c .bank .shadows) (c .queue)) (withQueue (advanced (c .queue)) c)
+  pub send-word : (c .queue .held ≡ 0 → ⊥) → step opSend c ≡ done (nextWord (widths First) (c .bank .shadows) (c .queue)) (withQueue (advanced (widths First) (c .queue)) c)
   unfolding send
   send-word e =
       sym (guard-in c (sendNow c) h)
-      ∙ ap (λ (b : Bool). cond b (replied NoWord c) (done (nextWord (c .bank .shadows) (c .queue)) (withQueue (advanced (c .queue)) c))) (ne-eqb (c .queue .held) 0 e)
+      ∙ ap (λ (b : Bool). cond b (replied NoWord c) (done (nextWord (widths First) (c .bank .shadows) (c .queue)) (withQueue (advanced (widths First) (c .queue)) c))) (ne-eqb (c .queue .held) 0 e)
 
 -- ---- several
 
 -- the chip after n single sends
-pub repeat-sends : (n : ℕ) (c : Chip) → inside c ≡ true → repeat n opSend c ≡ withQueue (sendQueue n (c .queue)) c
+pub repeat-sends : (n : ℕ) (c : Chip) → inside c ≡ true → repeat n opSend c ≡ withQueue (sendQueue (widths First) n (c .queue)) c
 unfolding repeat sendQueue
 repeat-sends zero c h = refl
 repeat-sends (suc n) c h = repeat-sends n (step opSend c .chip) (keeps-inside opSend c h) ∙ go (eqb (c .queue .held) 0) refl
   where
-    go : (b : Bool) → eqb (c .queue .held) 0 ≡ b → withQueue (sendQueue n (step opSend c .chip .queue)) (step opSend c .chip) ≡ withQueue (sendQueue (suc n) (c .queue)) c
+    go : (b : Bool) → eqb (c .queue .held) 0 ≡ b → withQueue (sendQueue (widths First) n (step opSend c .chip .queue)) (step opSend c .chip) ≡ withQueue (sendQueue (widths First) (suc n) (c .queue)) c
     go true e =
         let none : c .queue .held ≡ 0 = eqb-true (c .queue .held) 0 e in
-        ap (λ (a : Told). withQueue (sendQueue n (a .chip .queue)) (a .chip)) (send-empty c h none)
-        ∙ ap (λ (q : Queue). withQueue q c) (send-none n [] (c .queue) none .1 ∙ sym (send-none (suc n) [] (c .queue) none .1))
+        ap (λ (a : Told). withQueue (sendQueue (widths First) n (a .chip .queue)) (a .chip)) (send-empty c h none)
+        ∙ ap (λ (q : Queue). withQueue q c) (send-none (widths First) n [] (c .queue) none .1 ∙ sym (send-none (widths First) (suc n) [] (c .queue) none .1))
     go false e =
         let some : c .queue .held ≡ 0 → ⊥ = eqb-false (c .queue .held) 0 e in
-        ap (λ (a : Told). withQueue (sendQueue n (a .chip .queue)) (a .chip)) (send-word c h some)
-        ∙ ap (λ (q : Queue). withQueue q c) (sym (send-suc n [] (c .queue) some .1))
+        ap (λ (a : Told). withQueue (sendQueue (widths First) n (a .chip .queue)) (a .chip)) (send-word c h some)
+        ∙ ap (λ (q : Queue). withQueue q c) (sym (send-suc (widths First) n [] (c .queue) some .1))
 
 -- and the words that they give, where there is room for m
-pub given-sends : (m : ℕ) (c : Chip) → inside c ≡ true → given (length (sendWords m (c .bank .shadows) (c .queue))) opSend c ≡ sendWords m (c .bank .shadows) (c .queue)
+pub given-sends : (m : ℕ) (c : Chip) → inside c ≡ true → given (length (sendWords (widths First) m (c .bank .shadows) (c .queue))) opSend c ≡ sendWords (widths First) m (c .bank .shadows) (c .queue)
 unfolding given sendWords
 given-sends zero c h = refl
 given-sends (suc m) c h = go (eqb (c .queue .held) 0) refl (given-sends m (step opSend c .chip) (keeps-inside opSend c h))
   where
-    go : (b : Bool) → eqb (c .queue .held) 0 ≡ b → given (length (sendWords m (step opSend c .chip .bank .shadows) (step opSend c .chip .queue))) opSend (step opSend c .chip) ≡ sendWords m (step opSend c .chip .bank .shadows) (step opSend c .chip .queue) → given (length (cond b [] (nextWord (c .bank .shadows) (c .queue) ∷ sendWords m (c .bank .shadows) (advanced (c .queue))))) opSend c ≡ cond b [] (nextWord (c .bank .shadows) (c .queue) ∷ sendWords m (c .bank .shadows) (advanced (c .queue)))
+    go : (b : Bool) → eqb (c .queue .held) 0 ≡ b → given (length (sendWords (widths First) m (step opSend c .chip .bank .shadows) (step opSend c .chip .queue))) opSend (step opSend c .chip) ≡ sendWords (widths First) m (step opSend c .chip .bank .shadows) (step opSend c .chip .queue) → given (length (cond b [] (nextWord (widths First) (c .bank .shadows) (c .queue) ∷ sendWords (widths First) m (c .bank .shadows) (advanced (widths First) (c .queue))))) opSend c ≡ cond b [] (nextWord (widths First) (c .bank .shadows) (c .queue) ∷ sendWords (widths First) m (c .bank .shadows) (advanced (widths First) (c .queue)))
     go true e ih = refl
     go false e ih =
-        let one : step opSend c ≡ done (nextWord (c .bank .shadows) (c .queue)) (withQueue (advanced (c .queue)) c) = send-word c h (eqb-false (c .queue .held) 0 e) in
-        let rest : given (length (sendWords m (c .bank .shadows) (advanced (c .queue)))) opSend (step opSend c .chip) ≡ sendWords m (c .bank .shadows) (advanced (c .queue)) =
-        subst (λ (a : Told). given (length (sendWords m (a .chip .bank .shadows) (a .chip .queue))) opSend (step opSend c .chip) ≡ sendWords m (a .chip .bank .shadows) (a .chip .queue)) one ih in
+        let one : step opSend c ≡ done (nextWord (widths First) (c .bank .shadows) (c .queue)) (withQueue (advanced (widths First) (c .queue)) c) = send-word c h (eqb-false (c .queue .held) 0 e) in
+        let rest : given (length (sendWords (widths First) m (c .bank .shadows) (advanced (widths First) (c .queue)))) opSend (step opSend c .chip) ≡ sendWords (widths First) m (c .bank .shadows) (advanced (widths First) (c .queue)) =
+        subst (λ (a : Told). given (length (sendWords (widths First) m (a .chip .bank .shadows) (a .chip .queue))) opSend (step opSend c .chip) ≡ sendWords (widths First) m (a .chip .bank .shadows) (a .chip .queue)) one ih in
         ap₂ (λ (a : Told) (l : List ℕ). a .value ∷ l) one rest
 
 -- each with reply 0
-pub send-done : (m k : ℕ) (c : Chip) → inside c ≡ true → k < length (sendWords m (c .bank .shadows) (c .queue)) → step opSend (repeat k opSend c) .number ≡ 0
+pub send-done : (m k : ℕ) (c : Chip) → inside c ≡ true → k < length (sendWords (widths First) m (c .bank .shadows) (c .queue)) → step opSend (repeat k opSend c) .number ≡ 0
 unfolding repeat sendWords
 send-done zero k c h p = absurd (not-suc-le-zero p)
 send-done (suc m) zero c h p = go (eqb (c .queue .held) 0) refl p
   where
-    go : (b : Bool) → eqb (c .queue .held) 0 ≡ b → 0 < length (cond b [] (nextWord (c .bank .shadows) (c .queue) ∷ sendWords m (c .bank .shadows) (advanced (c .queue)))) → step opSend c .number ≡ 0
+    go : (b : Bool) → eqb (c .queue .held) 0 ≡ b → 0 < length (cond b [] (nextWord (widths First) (c .bank .shadows) (c .queue) ∷ sendWords (widths First) m (c .bank .shadows) (advanced (widths First) (c .queue)))) → step opSend c .number ≡ 0
     go true e q = absurd (not-suc-le-zero q)
     go false e q = ap (λ (a : Told). a .number) (send-word c h (eqb-false (c .queue .held) 0 e))
 send-done (suc m) (suc k) c h p = go (eqb (c .queue .held) 0) refl p (send-done m k (step opSend c .chip) (keeps-inside opSend c h))
   where
-    go : (b : Bool) → eqb (c .queue .held) 0 ≡ b → suc k < length (cond b [] (nextWord (c .bank .shadows) (c .queue) ∷ sendWords m (c .bank .shadows) (advanced (c .queue)))) → (k < length (sendWords m (step opSend c .chip .bank .shadows) (step opSend c .chip .queue)) → step opSend (repeat k opSend (step opSend c .chip)) .number ≡ 0) → step opSend (repeat k opSend (step opSend c .chip)) .number ≡ 0
+    go : (b : Bool) → eqb (c .queue .held) 0 ≡ b → suc k < length (cond b [] (nextWord (widths First) (c .bank .shadows) (c .queue) ∷ sendWords (widths First) m (c .bank .shadows) (advanced (widths First) (c .queue)))) → (k < length (sendWords (widths First) m (step opSend c .chip .bank .shadows) (step opSend c .chip .queue)) → step opSend (repeat k opSend (step opSend c .chip)) .number ≡ 0) → step opSend (repeat k opSend (step opSend c .chip)) .number ≡ 0
     go true e q ih = absurd (not-suc-le-zero q)
     go false e q ih =
-        ih (subst (λ (a : Told). k < length (sendWords m (a .chip .bank .shadows) (a .chip .queue))) (sym (send-word c h (eqb-false (c .queue .held) 0 e))) (le-of-suc-le-suc q))
+        ih (subst (λ (a : Told). k < length (sendWords (widths First) m (a .chip .bank .shadows) (a .chip .queue))) (sym (send-word c h (eqb-false (c .queue .held) 0 e))) (le-of-suc-le-suc q))
 
 -- ---- a buffer send
 
 module _ (m : ℕ) (c : Chip) where
-  fill-answer : inside c ≡ true → step (opFill m) c ≡ done (length (sendWords m (c .bank .shadows) (c .queue))) (withQueue (sendQueue m (c .queue)) c)
+  fill-answer : inside c ≡ true → step (opFill m) c ≡ done (length (sendWords (widths First) m (c .bank .shadows) (c .queue))) (withQueue (sendQueue (widths First) m (c .queue)) c)
   unfolding sendInto sendMany
-  fill-answer h = sym (guard-in c (done (length (sendWords m (c .bank .shadows) (c .queue))) (withQueue (sendQueue m (c .queue)) c)) h)
+  fill-answer h = sym (guard-in c (done (length (sendWords (widths First) m (c .bank .shadows) (c .queue))) (withQueue (sendQueue (widths First) m (c .queue)) c)) h)
 
-  fill-count : inside c ≡ true → step (opFill m) c .value ≡ length (sendWords m (c .bank .shadows) (c .queue))
+  fill-count : inside c ≡ true → step (opFill m) c .value ≡ length (sendWords (widths First) m (c .bank .shadows) (c .queue))
   fill-count h = ap (λ (a : Told). a .value) (fill-answer h)
 
   -- outside the bounds no word is sent
@@ -114,9 +116,9 @@ module _ (m : ℕ) (c : Chip) where
     where
       go : (b : Bool) → inside c ≡ b → step (opFill m) c ≡ record { chip = repeat (step (opFill m) c .value) opSend c; number = cond b 0 15; value = step (opFill m) c .value }
       go true h =
-          let n : ℕ = length (sendWords m (c .bank .shadows) (c .queue)) in
-          let chip : withQueue (sendQueue m (c .queue)) c ≡ repeat n opSend c =
-          ap (λ (q : Queue). withQueue q c) (sym (words-queue (c .bank .shadows) m (c .queue))) ∙ sym (repeat-sends n c h) in
+          let n : ℕ = length (sendWords (widths First) m (c .bank .shadows) (c .queue)) in
+          let chip : withQueue (sendQueue (widths First) m (c .queue)) c ≡ repeat n opSend c =
+          ap (λ (q : Queue). withQueue q c) (sym (words-queue (widths First) (c .bank .shadows) m (c .queue))) ∙ sym (repeat-sends n c h) in
           fill-answer h ∙ ap (done n) chip ∙ ap (λ (k : ℕ). done k (repeat k opSend c)) (sym (fill-count h))
       go false h =
           fill-outside h
@@ -124,13 +126,13 @@ module _ (m : ℕ) (c : Chip) where
 
   -- "as many words as it has places"
   pub fill-most : step (opFill m) c .value ≤ m
-  fill-most = by-count (λ n. n ≤ m) (λ h. subst (λ (n : ℕ). n ≤ m) (sym (fill-count h)) (words-most (c .bank .shadows) m (c .queue))) zero-le
+  fill-most = by-count (λ n. n ≤ m) (λ h. subst (λ (n : ℕ). n ≤ m) (sym (fill-count h)) (words-most (widths First) (c .bank .shadows) m (c .queue))) zero-le
 
   -- "or as are left"
   pub fill-all : inside c ≡ true → step (opFill m) c .value < m → step (opFill m) c .chip .queue .held ≡ 0
   fill-all h p =
       ap (λ (a : Told). a .chip .queue .held) (fill-answer h)
-      ∙ words-all (c .bank .shadows) m (c .queue) (subst (λ (n : ℕ). n < m) (fill-count h) p)
+      ∙ words-all (widths First) (c .bank .shadows) m (c .queue) (subst (λ (n : ℕ). n < m) (fill-count h) p)
 
   -- so each of that many single sends replies 0, and where there is more room the next would reply 5
   pub fill-done : (k : ℕ) → k < step (opFill m) c .value → step opSend (repeat k opSend c) .number ≡ 0
@@ -144,7 +146,7 @@ module _ (m : ℕ) (c : Chip) where
   -- "A buffer send with nothing left returns 0 words with reply 0"
   pub fill-none : inside c ≡ true → c .queue .held ≡ 0 → step (opFill m) c ≡ done 0 c
   fill-none h e =
-      let none = send-none m (c .bank .shadows) (c .queue) e in
+      let none = send-none (widths First) m (c .bank .shadows) (c .queue) e in
       fill-answer h ∙ ap₂ (λ (ws : List ℕ) (q : Queue). done (length ws) (withQueue q c)) (none .0) (none .1)
 
 -- "the rest of the buffer untouched": the words are what the single sends give, one after the other
@@ -153,7 +155,7 @@ unfolding sentBuffer sendBuffer given
 fill-words c out = go (inside c) refl
   where
     ws : List ℕ
-    ws = sendWords (length out) (c .bank .shadows) (c .queue)
+    ws = sendWords (widths First) (length out) (c .bank .shadows) (c .queue)
 
     go : (b : Bool) → inside c ≡ b → cond b (ws ++ drop (length ws) out) out ≡ given (step (opFill (length out)) c .value) opSend c ++ drop (step (opFill (length out)) c .value) out
     go true h =
@@ -164,4 +166,4 @@ fill-words c out = go (inside c) refl
 -- "With 15 a lent buffer is untouched"
 pub buffer-outside : (c : Chip) (out : List ℕ) → inside c ≡ false → sentBuffer c out ≡ out
 unfolding sentBuffer
-buffer-outside c out h = ap (λ (b : Bool). cond b (sendBuffer (c .bank .shadows) (c .queue) out) out) h
+buffer-outside c out h = ap (λ (b : Bool). cond b (sendBuffer (widths First) (c .bank .shadows) (c .queue) out) out) h

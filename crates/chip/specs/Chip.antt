@@ -10,6 +10,8 @@ use Rattle.counters.specs.Due.{disabling, enabling, fired, selecting, selection
 use Rattle.counters.specs.declared.bank.Bank.{Bank}
 use Rattle.counters.specs.declared.switches.Switches.{Switches}
 use Rattle.counters.specs.declared.switches.Kind.the-variants.{Slow, Node}
+use Rattle.samples.specs.Layout.{widths}
+use Rattle.samples.specs.declared.edition.Edition.the-variants.{First}
 use Rattle.queue.specs.Queue.{advanced, busy, emptyQueue, full, insideQueue, nextWord, pushed, sendBuffer, sendMany}
 use Rattle.queue.specs.declared.queue.Held.{Held}
 use Rattle.queue.specs.declared.queue.Queue.{Queue}
@@ -74,7 +76,7 @@ replied r c = toldRow (rowOf r 0) c
 
 -- the bounds of reply 15: "queue counts, .. phase, field widths"
 abbrev pub inside : Chip → Bool
-inside c = insideQueue (c .queue) && (ltb (c .switches .phase) 10 && ltb (c .stamp) (2 ^ 56))
+inside c = insideQueue (widths First) (c .queue) && (ltb (c .switches .phase) 10 && ltb (c .stamp) (2 ^ 56))
 
 -- 15 is tried first, at "any operation but hardware reset"
 abbrev pub guarded : Chip → Told → Told
@@ -229,7 +231,7 @@ noneHeld held = eqb held 0
 abbrev pub sendNow : Chip → Told
 sendNow c =
     cond (noneHeld (c .queue .held)) (replied NoWord c)
-    (done (nextWord (c .bank .shadows) (c .queue)) (withQueue (advanced (c .queue)) c))
+    (done (nextWord (widths First) (c .bank .shadows) (c .queue)) (withQueue (advanced (widths First) (c .queue)) c))
 
 unfoldable pub send : Chip → Told
 send c = guarded c (sendNow c)
@@ -237,9 +239,9 @@ send c = guarded c (sendNow c)
 -- "A buffer send with nothing left returns 0 words with reply 0"
 unfoldable pub sendInto : ℕ → Chip → Told
 sendInto room c =
-    let s = sendMany room (c .bank .shadows) (c .queue) in
+    let s = sendMany (widths First) room (c .bank .shadows) (c .queue) in
     guarded c (done (s .count) (withQueue (s .queue) c))
 
 -- "With 15 a lent buffer is untouched"
 unfoldable pub sentBuffer : Chip → List ℕ → List ℕ
-sentBuffer c out = cond (inside c) (sendBuffer (c .bank .shadows) (c .queue) out) out
+sentBuffer c out = cond (inside c) (sendBuffer (widths First) (c .bank .shadows) (c .queue) out) out

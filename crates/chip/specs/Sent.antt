@@ -2,7 +2,8 @@
 use Prim.Native.Nat.{ℕ}
 use mathlib.Core.Bool.{Bool}
 use mathlib.Core.List.{List}
-use Rattle.samples.specs.Layout.{firstChip, sampleWords}
+use Rattle.samples.specs.Layout.{sampleWords, widths}
+use Rattle.samples.specs.declared.edition.Edition.the-variants.{First}
 use Rattle.samples.specs.declared.sample.Sample.{Sample}
 use Rattle.queue.specs.Queue.{firstHeld, heldSample}
 use Rattle.chip.specs.Chip.{sampleNow, takeSample}
@@ -14,4 +15,4 @@ takenSample resource line bits c = heldSample (takeSample resource line bits c .
 
 -- the words of the first sample held
 abbrev pub firstWords : Chip → List ℕ
-firstWords c = sampleWords firstChip (heldSample (c .bank .shadows) (firstHeld (c .queue)))
+firstWords c = sampleWords (widths First) (heldSample (c .bank .shadows) (firstHeld (c .queue)))

@@ -11,6 +11,7 @@ use counters::switches::Kind;
 use counters::switches::Switches;
 use queue::queue::Held;
 use queue::queue::Queue;
+use samples::edition::Edition;
 ghost use mathlib.Core.Path.{_≡_};
 ghost use mathlib.Core.Bool.{cond};
 ghost use Prim.Native.Nat.{_<_, _^_};
@@ -78,7 +79,7 @@ impl Chip {
     {
         let queue = self.queue;
         let phase = self.switches.phase;
-        queue.inside() & (phase < 10) & (self.stamp < TWO_56)
+        queue.inside(Edition::First) & (phase < 10) & (self.stamp < TWO_56)
     }
 
     // Done, with a value.
@@ -163,7 +164,7 @@ impl Chip {
                 return self.replied(Reply::NoWord);
             }
             let shadows = self.bank.shadows;
-            let sent = self.queue.send(shadows);
+            let sent = self.queue.send(Edition::First, shadows);
             let queue = sent.queue;
             self.queue = queue;
             return self.done(sent.word as u64);
@@ -178,7 +179,7 @@ impl Chip {
     {
         if self.inside() {
             let shadows = self.bank.shadows;
-            let sent = self.queue.send_into(shadows, out);
+            let sent = self.queue.send_into(Edition::First, shadows, out);
             let queue = sent.queue;
             self.queue = queue;
             return self.done(sent.count);

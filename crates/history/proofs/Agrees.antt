@@ -9,6 +9,7 @@ use lib.ListN.{length}
 use lib.Pow.{pow-pos}
 use borrow.Author.Tests.{lt-ltb}
 use Rattle.counters.specs.declared.switches.Switches.{Switches}
+use Rattle.samples.specs.declared.edition.Edition.the-variants.{First}
 use Rattle.queue.specs.declared.queue.Queue.{Queue}
 use Rattle.control.specs.declared.control.Control.{Control}
 use Rattle.chip.specs.Chip.{guarded, inside}
@@ -53,7 +54,7 @@ chipFor l q sh =
 
 -- what is known of the queue and the shadows
 pub record Good (l : Ledger) (q : Queue) (sh : List ℕ) : Type 0 where
-  pub holds : Holds (l .taken) (l .sent) sh q
+  pub holds : Holds First (l .taken) (l .sent) sh q
   pub sixteen : Sixteen (l .taken)
   pub counters : length (l .counters) ≡ 16
 
@@ -72,7 +73,7 @@ pub record Kept (e : Entry) (t : Told) : Type 0 where
 -- such a record is inside its bounds, so no operation replies 15
 pub for-inside : (l : Ledger) (q : Queue) (sh : List ℕ) → Good l q sh → inside (chipFor l q sh) ≡ true
 for-inside l q sh g =
-    ap₂ (λ (a b : Bool). a && b) (holds-inside (l .taken) (l .sent) sh q (g .holds))
+    ap₂ (λ (a b : Bool). a && b) (holds-inside First (l .taken) (l .sent) sh q (g .holds))
     (ap₂ (λ (a b : Bool). a && b) (lt-ltb (l .ticks % 10) 10 (mod-lt (l .ticks) (zero-lt-suc 9)))
     (lt-ltb (l .clock % 2 ^ 56) (2 ^ 56) (mod-lt (l .clock) (pow-pos 56))))
 

@@ -1,19 +1,18 @@
 -- Every operation keeps the relation between ledger and record, and replies what the ledger says. Assumes nothing.
-use Prim.Native.Nat.{ℕ, zero, suc, _+_, _-_, _*_, _/_, _%_, _^_, _≤_, _<_, min}
+use Prim.Native.Nat.{ℕ, zero, suc, _+_, _-_, _*_, _/_, _%_, _^_, _<_, min}
 use native.Mathlib.Nat.{mod-add-mod, mod-lt}
-use native.Mathlib.Numerals.{add-one}
 use native.Mathlib.Omega.{arith}
 use mathlib.Core.Path.{_≡_, refl, sym, ap, ap₂, _∙_, subst}
 use mathlib.Core.Bool.{Bool, true, false, cond, not, _&&_, _||_}
-use mathlib.Core.List.{List, [], _∷_, map}
+use mathlib.Core.List.{List, map}
 use lib.Bits.{and-lt, or-lt}
 use lib.Dec.{eqb, leb}
-use lib.ListN.{length, take, drop, getD, replicate, set, length-drop}
+use lib.ListN.{length, getD, replicate}
 use lib.Pow.{pow-pos}
-use lib.Seq.{drop-cons, length-take-le}
 use borrow.Author.Tests.{eq-eqb, ne-eqb, eqb-true, eqb-false}
-use Rattle.samples.specs.declared.sample.Sample.{Sample}
-use Rattle.counters.specs.Bank.{bit, copied, counting, grown}
+use Rattle.samples.specs.Layout.{widths}
+use Rattle.samples.specs.declared.edition.Edition.the-variants.{First}
+use Rattle.counters.specs.Bank.{bit, copied, grown}
 use Rattle.counters.specs.Bank.{each as Bank·each}
 use Rattle.counters.specs.Due.{disabling, due, enabling, selecting, selects}
 use Rattle.counters.specs.Due.{fieldOf as Kind·fieldOf}
@@ -21,7 +20,7 @@ use Rattle.counters.specs.declared.switches.Kind.{Kind}
 use Rattle.counters.specs.declared.switches.Kind.the-variants.{Slow, External, Software, Node}
 use Rattle.counters.specs.declared.switches.Switches.{Switches}
 use Rattle.counters.proofs.BitLaws.{bit-mod, disabled-bit, enabled-bit, high-bit, low-bit}
-use Rattle.queue.specs.Queue.{advanced, busy, emptyQueue, nextWord, sendMany, sendQueue, sendWords}
+use Rattle.queue.specs.Queue.{advanced, busy, emptyQueue, nextWord, sendMany, sendQueue}
 use Rattle.queue.specs.declared.queue.Queue.{Queue}
 use Rattle.control.specs.Control.{csrOf, one, pair, waited}
 use Rattle.control.specs.Control.{configured as Control·configured}
@@ -31,16 +30,15 @@ use Rattle.chip.specs.Operation.{Operation, opReset, opWrite, opRead, opTicks, 
 use Rattle.chip.specs.Place.{placeOf, registerOf}
 use Rattle.chip.specs.Told.{Told}
 use Rattle.chip.specs.declared.chip.Chip.{Chip}
-use Rattle.chip.specs.declared.place.Place.{Place}
 use Rattle.chip.specs.declared.place.Place.the-variants.{Beyond, Nowhere, Csr, Source, Trigger}
 use Rattle.chip.specs.declared.place.Place.the-variants.{Counter as Place·Counter}
-use Rattle.history.specs.Ledger.{Counter, Entry, Ledger, byRange, cleared, configured, counted, counterRead, csrIn, each, eachFrom, enabled, muxOf, happened, held, isSet, left, noCounter, packed, readIn, readLow, resetAt, selected, sentMore, slowIn, tells, entryOf, turned, vacant, waitedOne, withCounters, withErrors, withSettings, withStream, withTicks, written, writtenLow}
+use Rattle.history.specs.Ledger.{Counter, Entry, Ledger, byRange, cleared, configured, counted, counterRead, csrIn, each, eachFrom, enabled, muxOf, happened, held, isSet, left, noCounter, packed, readIn, readLow, resetAt, selected, sentMore, slowIn, tells, entryOf, turned, vacant, waitedOne, withErrors, withSettings, withStream, withTicks, written, writtenLow}
 use Rattle.history.specs.Stream.{anyHeld, isFull, totalOf, wordsOfAll}
 use Rattle.history.proofs.Addresses.{by-place, range-beyond, range-counter, range-source, range-trigger, range-vacant}
 use Rattle.history.proofs.Agrees.{Agrees, Good, Kept, chipFor, controlOf, kept-guarded, switchesOf}
 use Rattle.history.proofs.CountLaws.{counted-value, each-length, each-same, packed-bit, packed-each, packed-lt, packed-same, phase-same, selects-number, slow-same, under, value-at, valueOf, values-each}
-use Rattle.history.proofs.HeldLaws.{Sixteen, words-total}
-use Rattle.history.proofs.HoldsLaws.{Holds, holds-advanced, holds-busy, holds-copied, holds-empty, holds-full, holds-none, holds-some, next-is}
+use Rattle.history.proofs.HeldLaws.{Sixteen}
+use Rattle.history.proofs.HoldsLaws.{Holds, holds-advanced, holds-busy, holds-copied, holds-empty, holds-full, holds-none, holds-some, next-is, many, many-count}
 use Rattle.history.proofs.Triggers.{told, trigger-kept}
 
 -- ---- settings
@@ -77,33 +75,7 @@ unfolding packed
 reset-record clock = refl
 
 pub reset-good : (clock : ℕ) → Good (resetAt clock) emptyQueue (replicate 16 0)
-reset-good clock = record { holds = holds-empty (replicate 16 0); sixteen = tt; counters = refl }
-
--- single sends, up to a number of them: the words are the next ones, and the queue is what is left
-pub many : (taken : List Sample) → Sixteen taken → (sh : List ℕ) (room n : ℕ) (p : Queue) → Holds taken n sh p → (sendWords room sh p ≡ take (min room (totalOf taken - n)) (drop n (wordsOfAll taken))) × Holds taken (n + min room (totalOf taken - n)) sh (sendQueue room p)
-unfolding sendWords sendQueue
-many taken sixteen sh zero n p h =
-    let none : min 0 (totalOf taken - n) ≡ 0 = omega arith in
-    (ap (λ (k : ℕ). take k (drop n (wordsOfAll taken))) (sym none), subst (λ (k : ℕ). Holds taken k sh p) (omega arith) h)
-many taken sixteen sh (suc room) n p h = go (eqb (p .held) 0) refl (λ k. many taken sixteen sh room (n + 1) (advanced p) k)
-  where
-    go : (b : Bool) → eqb (p .held) 0 ≡ b → (Holds taken (n + 1) sh (advanced p) → (sendWords room sh (advanced p) ≡ take (min room (totalOf taken - (n + 1))) (drop (n + 1) (wordsOfAll taken))) × Holds taken (n + 1 + min room (totalOf taken - (n + 1))) sh (sendQueue room (advanced p))) → (cond b [] (nextWord sh p ∷ sendWords room sh (advanced p)) ≡ take (min (suc room) (totalOf taken - n)) (drop n (wordsOfAll taken))) × Holds taken (n + min (suc room) (totalOf taken - n)) sh (cond b p (sendQueue room (advanced p)))
-    go true e ih =
-        let none : totalOf taken - n ≡ 0 = holds-none taken n sh p h (eqb-true (p .held) 0 e) in
-        let nothing : min (suc room) (totalOf taken - n) ≡ 0 = omega arith in
-        (ap (λ (k : ℕ). take k (drop n (wordsOfAll taken))) (sym nothing), subst (λ (k : ℕ). Holds taken k sh p) (omega arith) h)
-    go false e ih =
-        let f : p .held ≡ 0 → ⊥ = eqb-false (p .held) 0 e in
-        let some : n < totalOf taken = holds-some taken n sh p h f in
-        let y = ih (holds-advanced taken n sh p h sixteen f) in
-        let k : ℕ = min room (totalOf taken - (n + 1)) in
-        let more : min (suc room) (totalOf taken - n) ≡ suc k = omega arith in
-        let long : n < length (wordsOfAll taken) = subst (λ (m : ℕ). n < m) (sym (words-total taken sixteen)) some in (
-          ap₂ (λ (w : ℕ) (ws : List ℕ). w ∷ ws) (next-is taken n sh p h sixteen f) (y .0 ∙ ap (λ (m : ℕ). take k (drop m (wordsOfAll taken))) (add-one n))
-              ∙ ap (take (suc k)) (sym (drop-cons (wordsOfAll taken) n 0 long))
-              ∙ ap (λ (m : ℕ). take m (drop n (wordsOfAll taken))) (sym more),
-          subst (λ (m : ℕ). Holds taken m sh (sendQueue room (advanced p))) (omega arith) (y .1),
-        )
+reset-good clock = record { holds = holds-empty First (replicate 16 0); sixteen = tt; counters = refl }
 
 module _ (l : Ledger) (q : Queue) (sh : List ℕ) (g : Good l q sh) where
   -- the same record
@@ -121,7 +93,7 @@ module _ (l : Ledger) (q : Queue) (sh : List ℕ) (g : Good l q sh) where
               is = e;
               good =
                   record {
-                    holds = subst (λ (ss : _). Holds ss (l′ .sent) sh q) (sym t) (subst (λ (n : ℕ). Holds (l .taken) n sh q) (sym s) (g .holds));
+                    holds = subst (λ (ss : _). Holds First ss (l′ .sent) sh q) (sym t) (subst (λ (n : ℕ). Holds First (l .taken) n sh q) (sym s) (g .holds));
                     sixteen = subst Sixteen (sym t) (g .sixteen);
                     counters = ap length v ∙ g .counters;
                   };
@@ -381,7 +353,7 @@ module _ (l : Ledger) (q : Queue) (sh : List ℕ) (g : Good l q sh) where
               queue = q;
               shadows = map valueOf (l .counters);
               is = refl;
-              good = record { holds = holds-copied (l .taken) (l .sent) sh q (g .holds) (map valueOf (l .counters)) e; sixteen = g .sixteen; counters = g .counters };
+              good = record { holds = holds-copied First (l .taken) (l .sent) sh q (g .holds) (map valueOf (l .counters)) e; sixteen = g .sixteen; counters = g .counters };
             };
         number = refl;
         value = value-at (l .counters) i;
@@ -390,7 +362,7 @@ module _ (l : Ledger) (q : Queue) (sh : List ℕ) (g : Good l q sh) where
   counter-kept : (i : ℕ) → Kept (counterRead i l) (readCounter i (chipFor l q sh))
   unfolding readCounter counterEntry counterTold
   counter-kept i =
-      let e : busy q ≡ anyHeld (held l) = holds-busy (l .taken) (l .sent) sh q (g .holds) in
+      let e : busy q ≡ anyHeld (held l) = holds-busy First (l .taken) (l .sent) sh q (g .holds) in
       subst (Kept (counterRead i l)) (λ k. counterTold i (sym e k) (l .settings .readwait))
       (counter-by i (anyHeld (held l)) (l .settings .readwait) e)
 
@@ -398,7 +370,7 @@ module _ (l : Ledger) (q : Queue) (sh : List ℕ) (g : Good l q sh) where
   unfolding readAt
   csr-kept =
       same 0 _ _ refl refl
-      (ap₂ (λ (a b : Bool). csrOf a b (controlOf l)) (holds-full (l .taken) (l .sent) sh q (g .holds)) (holds-busy (l .taken) (l .sent) sh q (g .holds))
+      (ap₂ (λ (a b : Bool). csrOf a b (controlOf l)) (holds-full First (l .taken) (l .sent) sh q (g .holds)) (holds-busy First (l .taken) (l .sent) sh q (g .holds))
       ∙ csr-same (isFull (held l)) (anyHeld (held l)) l)
 
   read-kept : (a : ℕ) → Kept (readIn a l) (readAt (placeOf a) (chipFor l q sh))
@@ -498,41 +470,42 @@ module _ (l : Ledger) (q : Queue) (sh : List ℕ) (g : Good l q sh) where
   -- ---- sends
 
   -- another queue that holds what is left after more words
-  sent-kept : (m v : ℕ) (q′ : Queue) (a : Told) → Holds (l .taken) (l .sent + m) sh q′ → a .chip ≡ withQueue q′ (chipFor l q sh) → a .number ≡ 0 → a .value ≡ v → Kept (tells 0 v (withStream (l .taken) (l .sent + m) l)) a
+  sent-kept : (m v : ℕ) (q′ : Queue) (a : Told) → Holds First (l .taken) (l .sent + m) sh q′ → a .chip ≡ withQueue q′ (chipFor l q sh) → a .number ≡ 0 → a .value ≡ v → Kept (tells 0 v (withStream (l .taken) (l .sent + m) l)) a
   sent-kept m v q′ a h e p r =
       record { agrees = record { queue = q′; shadows = sh; is = e; good = record { holds = h; sixteen = g .sixteen; counters = g .counters } }; number = p; value = r }
 
   -- a single send
   sendEntry : Bool → Entry
-  sendEntry none = cond none (tells 5 0 l) (tells 0 (getD (wordsOfAll (l .taken)) (l .sent) 0) (sentMore 1 l))
+  sendEntry none = cond none (tells 5 0 l) (tells 0 (getD (wordsOfAll First (l .taken)) (l .sent) 0) (sentMore 1 l))
 
   send-kept : Kept (sendEntry (eqb (left l) 0)) (sendNow (chipFor l q sh))
   unfolding sendEntry
   send-kept = go (eqb (q .held) 0) refl
     where
-      go : (b : Bool) → eqb (q .held) 0 ≡ b → Kept (sendEntry (eqb (left l) 0)) (cond b (replied NoWord (chipFor l q sh)) (done (nextWord sh q) (withQueue (advanced q) (chipFor l q sh))))
+      go : (b : Bool) → eqb (q .held) 0 ≡ b → Kept (sendEntry (eqb (left l) 0)) (cond b (replied NoWord (chipFor l q sh)) (done (nextWord (widths First) sh q) (withQueue (advanced (widths First) q) (chipFor l q sh))))
       go true e =
-          let none : left l ≡ 0 = holds-none (l .taken) (l .sent) sh q (g .holds) (eqb-true (q .held) 0 e) in
+          let none : left l ≡ 0 = holds-none First (l .taken) (l .sent) sh q (g .holds) (eqb-true (q .held) 0 e) in
           subst (λ (b : Bool). Kept (sendEntry b) (replied NoWord (chipFor l q sh))) (sym (eq-eqb (left l) 0 none)) (same 5 0 _ refl refl refl)
       go false e =
           let f : q .held ≡ 0 → ⊥ = eqb-false (q .held) 0 e in
-          let some : l .sent < totalOf (l .taken) = holds-some (l .taken) (l .sent) sh q (g .holds) f in
+          let some : l .sent < totalOf First (l .taken) = holds-some First (l .taken) (l .sent) sh q (g .holds) f in
           let now : l .sent + 1 ≡ l .sent + min 1 (left l) = omega arith in
-          subst (λ (b : Bool). Kept (sendEntry b) (done (nextWord sh q) (withQueue (advanced q) (chipFor l q sh)))) (sym (ne-eqb (left l) 0 (λ z. omega arith)))
-          (sent-kept (min 1 (left l)) _ (advanced q) _
-          (subst (λ (n : ℕ). Holds (l .taken) n sh (advanced q)) now (holds-advanced (l .taken) (l .sent) sh q (g .holds) (g .sixteen) f))
+          subst (λ (b : Bool). Kept (sendEntry b) (done (nextWord (widths First) sh q) (withQueue (advanced (widths First) q) (chipFor l q sh)))) (sym (ne-eqb (left l) 0 (λ z. omega arith)))
+          (sent-kept (min 1 (left l)) _ (advanced (widths First) q) _
+          (subst (λ (n : ℕ). Holds First (l .taken) n sh (advanced (widths First) q)) now (holds-advanced First (l .taken) (l .sent) sh q (g .holds) (g .sixteen) f))
           refl
           refl
-          (next-is (l .taken) (l .sent) sh q (g .holds) (g .sixteen) f))
+          (next-is First (l .taken) (l .sent) sh q (g .holds) (g .sixteen) f))
 
   -- a buffer send
-  fill-kept : (room : ℕ) → Kept (tells 0 (min room (left l)) (sentMore room l)) (done (sendMany room sh q .count) (withQueue (sendMany room sh q .queue) (chipFor l q sh)))
+  fill-kept : (room : ℕ) → Kept (tells 0 (min room (left l)) (sentMore room l)) (done (sendMany (widths First) room sh q .count) (withQueue (sendMany (widths First) room sh q .queue) (chipFor l q sh)))
   unfolding sendMany
   fill-kept room =
-      let x = many (l .taken) (g .sixteen) sh room (l .sent) q (g .holds) in
-      let rest : length (drop (l .sent) (wordsOfAll (l .taken))) ≡ left l = length-drop (l .sent) (wordsOfAll (l .taken)) ∙ ap (λ (n : ℕ). n - l .sent) (words-total (l .taken) (g .sixteen)) in
-      sent-kept (min room (left l)) (min room (left l)) (sendQueue room q) _ (x .1) refl refl
-      (ap length (x .0) ∙ length-take-le (min room (left l)) (drop (l .sent) (wordsOfAll (l .taken))) (rw rest (omega arith)))
+      sent-kept (min room (left l)) (min room (left l)) (sendQueue (widths First) room q) _
+      (many First (l .taken) (g .sixteen) sh room (l .sent) q (g .holds) .1)
+      refl
+      refl
+      (many-count First (l .taken) (g .sixteen) sh room (l .sent) q (g .holds))
 
 -- every operation on a record that a ledger leaves
 pub step-kept : (op : Operation) (l : Ledger) (q : Queue) (sh : List ℕ) → Good l q sh → Kept (entryOf op l) (step op (chipFor l q sh))

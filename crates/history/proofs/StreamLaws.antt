@@ -1,32 +1,34 @@
 -- The words that the chip gave, and those it will give, are those of the ledger's samples. Assumes nothing.
-use Prim.Native.Nat.{ℕ, zero, suc, _+_, _-_, _*_, _%_, _^_, _≤_, _<_, min}
+use Prim.Native.Nat.{ℕ, zero, suc, _+_, _-_, _%_, _≤_, _<_, min}
 use native.Mathlib.Omega.{arith}
 use mathlib.Core.Path.{_≡_, refl, sym, ap, ap₂, _∙_, subst}
 use mathlib.Core.Bool.{Bool, true, false, cond}
 use mathlib.Core.List.{List, [], _∷_, _++_, append-nil}
 use lib.Dec.{eqb, leb, ltb}
-use lib.ListN.{length, take, drop, getD, replicate, length-drop, length-replicate, drop-of-length-le}
-use lib.Seq.{drop-cons, take-add, take-append-le, take-at, take-suc, length-take-le}
-use borrow.Author.Tests.{eqb-true, eqb-false, leb-true}
-use Rattle.samples.specs.Layout.{firstChip, resource, sampleWords}
+use lib.ListN.{length, take, drop, getD, replicate, length-replicate, drop-of-length-le}
+use lib.Seq.{drop-cons, take-add, take-append-le, take-at, take-suc}
+use borrow.Author.Tests.{eqb-true, eqb-false}
+use Rattle.samples.specs.Layout.{sampleWords, widths}
+use Rattle.samples.specs.declared.edition.Edition.the-variants.{First}
 use Rattle.samples.specs.declared.sample.Sample.{Sample}
 use Rattle.queue.specs.Queue.{sendBuffer, sendWords}
 use Rattle.queue.specs.declared.queue.Queue.{Queue}
 use Rattle.chip.specs.Chip.{inside, sentBuffer}
 use Rattle.chip.specs.Operation.{Operation, opReset, opWrite, opRead, opTicks, opNodes, opEvents, opSend, opFill, step}
 use Rattle.chip.specs.declared.chip.Chip.{Chip}
-use Rattle.history.specs.Ledger.{Entry, Fate, Ledger, afterFate, byFate, byRange, fateIn, held, left, lineIn, readIn, readLow, resetAt, sampleIn, sentMore, tells, entryOf, triggered, vacant, wasFiltered, wasLost, wasOff, wasTaken, wasTold, written, writtenLow}
+use Rattle.history.specs.Ledger.{Entry, Fate, Ledger, afterFate, byFate, byRange, fateIn, held, left, lineIn, readIn, readLow, sampleIn, sentMore, tells, entryOf, triggered, vacant, wasFiltered, wasLost, wasOff, wasTaken, wasTold, written, writtenLow}
 use Rattle.history.specs.Run.{comeWithin, streamAfter}
-use Rattle.history.specs.Stream.{anyHeld, heldOf, lengthOf, totalOf, wordsOfAll}
+use Rattle.history.specs.Stream.{anyHeld, wordsOfAll}
 use Rattle.history.proofs.Agrees.{Agrees, Kept, chipFor, for-inside}
 use Rattle.history.proofs.HeldLaws.{words-more, words-total}
-use Rattle.history.proofs.Steps.{agrees-step, many}
+use Rattle.history.proofs.HoldsLaws.{many, many-count}
+use Rattle.history.proofs.Steps.{agrees-step}
 
 -- ---- the words sent so far
 
 -- an entry that leaves them as they were
 record Stays (l : Ledger) (e : Entry) : Type 0 where
-  is : take (e .ledger .sent) (wordsOfAll (e .ledger .taken)) ≡ take (l .sent) (wordsOfAll (l .taken))
+  is : take (e .ledger .sent) (wordsOfAll First (e .ledger .taken)) ≡ take (l .sent) (wordsOfAll First (l .taken))
 
 -- whatever a test says
 either : {l : Ledger} {x y : Entry} (b : Bool) → Stays l x → Stays l y → Stays l (cond b x y)
@@ -34,24 +36,24 @@ either true p r = p
 either false p r = r
 
 stay : (l : Ledger) (e : Entry) → e .ledger .taken ≡ l .taken → e .ledger .sent ≡ l .sent → Stays l e
-stay l e t n = record { is = ap₂ (λ (k : ℕ) (ss : List Sample). take k (wordsOfAll ss)) n t }
+stay l e t n = record { is = ap₂ (λ (k : ℕ) (ss : List Sample). take k (wordsOfAll First ss)) n t }
 
 -- what a fate leaves of the stream
-fate-stream : (f : Fate) (r : Bool) (line bits : ℕ) (l : Ledger) → l .sent ≤ length (wordsOfAll (l .taken)) → Stays l (byFate f r line bits l)
+fate-stream : (f : Fate) (r : Bool) (line bits : ℕ) (l : Ledger) → l .sent ≤ length (wordsOfAll First (l .taken)) → Stays l (byFate f r line bits l)
 unfolding afterFate
 fate-stream wasOff r line bits l h = stay l _ refl refl
 fate-stream wasFiltered r line bits l h = stay l _ refl refl
 fate-stream wasLost r line bits l h = stay l _ refl refl
 fate-stream wasTold r line bits l h = stay l _ refl refl
 fate-stream wasTaken r line bits l h =
-    record { is = ap (take (l .sent)) (words-more (l .taken) (sampleIn r line bits l)) ∙ take-append-le (l .sent) (wordsOfAll (l .taken)) (sampleWords firstChip (sampleIn r line bits l)) h }
+    record { is = ap (take (l .sent)) (words-more First (l .taken) (sampleIn r line bits l)) ∙ take-append-le (l .sent) (wordsOfAll First (l .taken)) (sampleWords (widths First) (sampleIn r line bits l)) h }
 
-trigger-stream : (r : Bool) (level bits lines : ℕ) (l : Ledger) → l .sent ≤ length (wordsOfAll (l .taken)) → Stays l (triggered r level bits lines l)
+trigger-stream : (r : Bool) (level bits lines : ℕ) (l : Ledger) → l .sent ≤ length (wordsOfAll First (l .taken)) → Stays l (triggered r level bits lines l)
 unfolding triggered
 trigger-stream r level bits lines l h = either (ltb (lineIn lines) 8) (fate-stream (fateIn r level l) r (lineIn lines) bits l h) (stay l _ refl refl)
 
 -- only the write at address 0 is a software reset
-write-stream : (a bits lines : ℕ) (l : Ledger) → eqb a 0 ≡ false → l .sent ≤ length (wordsOfAll (l .taken)) → Stays l (written a bits lines l)
+write-stream : (a bits lines : ℕ) (l : Ledger) → eqb a 0 ≡ false → l .sent ≤ length (wordsOfAll First (l .taken)) → Stays l (written a bits lines l)
 unfolding written byRange writtenLow
 write-stream a bits lines l e h =
     either (ltb 127 a) (stay l _ refl refl)
@@ -84,11 +86,11 @@ read-stream a l =
     (either (eqb a 6) (stay l _ refl refl) (either (eqb a 8) (stay l _ refl refl) (either (eqb a 11) (stay l _ refl refl) (stay l _ refl refl))))))))))))
 
 module _ (l : Ledger) (c : Chip) (a : Agrees l c) where
-  sent-within : l .sent ≤ length (wordsOfAll (l .taken))
-  sent-within = subst (λ (n : ℕ). l .sent ≤ n) (sym (words-total (l .taken) (a .good .sixteen))) (a .good .holds .enough)
+  sent-within : l .sent ≤ length (wordsOfAll First (l .taken))
+  sent-within = subst (λ (n : ℕ). l .sent ≤ n) (sym (words-total First (l .taken) (a .good .sixteen))) (a .good .holds .enough)
 
   -- a single send adds the next word, if one is left
-  send-words : take (l .sent) (wordsOfAll (l .taken)) ++ cond (eqb (step opSend c .number) 0) (step opSend c .value ∷ []) [] ≡ take (entryOf opSend l .ledger .sent) (wordsOfAll (entryOf opSend l .ledger .taken))
+  send-words : take (l .sent) (wordsOfAll First (l .taken)) ++ cond (eqb (step opSend c .number) 0) (step opSend c .value ∷ []) [] ≡ take (entryOf opSend l .ledger .sent) (wordsOfAll First (entryOf opSend l .ledger .taken))
   unfolding entryOf
   send-words = go (eqb (left l) 0) refl (k .number) (k .value)
     where
@@ -96,48 +98,47 @@ module _ (l : Ledger) (c : Chip) (a : Agrees l c) where
       k = agrees-step opSend l c a
 
       told : Bool → Entry
-      told b = cond b (tells 5 0 l) (tells 0 (getD (wordsOfAll (l .taken)) (l .sent) 0) (sentMore 1 l))
+      told b = cond b (tells 5 0 l) (tells 0 (getD (wordsOfAll First (l .taken)) (l .sent) 0) (sentMore 1 l))
 
-      go : (b : Bool) → eqb (left l) 0 ≡ b → step opSend c .number ≡ told b .number → step opSend c .value ≡ told b .value → take (l .sent) (wordsOfAll (l .taken)) ++ cond (eqb (step opSend c .number) 0) (step opSend c .value ∷ []) [] ≡ take (told b .ledger .sent) (wordsOfAll (told b .ledger .taken))
+      go : (b : Bool) → eqb (left l) 0 ≡ b → step opSend c .number ≡ told b .number → step opSend c .value ≡ told b .value → take (l .sent) (wordsOfAll First (l .taken)) ++ cond (eqb (step opSend c .number) 0) (step opSend c .value ∷ []) [] ≡ take (told b .ledger .sent) (wordsOfAll First (told b .ledger .taken))
       go true e n v =
-          ap (λ (x : ℕ). take (l .sent) (wordsOfAll (l .taken)) ++ cond (eqb x 0) (step opSend c .value ∷ []) []) n
-          ∙ append-nil (take (l .sent) (wordsOfAll (l .taken)))
+          ap (λ (x : ℕ). take (l .sent) (wordsOfAll First (l .taken)) ++ cond (eqb x 0) (step opSend c .value ∷ []) []) n
+          ∙ append-nil (take (l .sent) (wordsOfAll First (l .taken)))
       go false e n v =
           let f : left l ≡ 0 → ⊥ = eqb-false (left l) 0 e in
           let one : suc (l .sent) ≡ l .sent + min 1 (left l) = omega arith in
-          let here : l .sent < length (wordsOfAll (l .taken)) = subst (λ (m : ℕ). l .sent < m) (sym (words-total (l .taken) (a .good .sixteen))) (omega arith) in
-          ap₂ (λ (x y : ℕ). take (l .sent) (wordsOfAll (l .taken)) ++ cond (eqb x 0) (y ∷ []) []) n v
-          ∙ sym (take-suc (wordsOfAll (l .taken)) (l .sent) 0 here)
-          ∙ ap (λ (m : ℕ). take m (wordsOfAll (l .taken))) one
+          let here : l .sent < length (wordsOfAll First (l .taken)) = subst (λ (m : ℕ). l .sent < m) (sym (words-total First (l .taken) (a .good .sixteen))) (omega arith) in
+          ap₂ (λ (x y : ℕ). take (l .sent) (wordsOfAll First (l .taken)) ++ cond (eqb x 0) (y ∷ []) []) n v
+          ∙ sym (take-suc (wordsOfAll First (l .taken)) (l .sent) 0 here)
+          ∙ ap (λ (m : ℕ). take m (wordsOfAll First (l .taken))) one
 
-  fill-words : (room : ℕ) → take (l .sent) (wordsOfAll (l .taken)) ++ take (step (opFill room) c .value) (sentBuffer c (replicate room 0)) ≡ take (l .sent + min room (left l)) (wordsOfAll (l .taken))
+  fill-words : (room : ℕ) → take (l .sent) (wordsOfAll First (l .taken)) ++ take (step (opFill room) c .value) (sentBuffer c (replicate room 0)) ≡ take (l .sent + min room (left l)) (wordsOfAll First (l .taken))
   unfolding entryOf sentBuffer sendBuffer
   fill-words room =
       let q : Queue = a .queue in
       let sh : List ℕ = a .shadows in
       let m : ℕ = min room (left l) in
       let k : Kept (entryOf (opFill room) l) (step (opFill room) c) = agrees-step (opFill room) l c a in
-      let x = many (l .taken) (a .good .sixteen) sh room (l .sent) q (a .good .holds) in
-      let rest : length (drop (l .sent) (wordsOfAll (l .taken))) ≡ left l = length-drop (l .sent) (wordsOfAll (l .taken)) ∙ ap (λ (n : ℕ). n - l .sent) (words-total (l .taken) (a .good .sixteen)) in
-      let size : length (sendWords room sh q) ≡ m = ap length (x .0) ∙ length-take-le m (drop (l .sent) (wordsOfAll (l .taken))) (rw rest (omega arith)) in
-      let buffer : sentBuffer c (replicate room 0) ≡ sendWords room sh q ++ drop (length (sendWords room sh q)) (replicate room 0) =
+      let x = many First (l .taken) (a .good .sixteen) sh room (l .sent) q (a .good .holds) in
+      let size : length (sendWords (widths First) room sh q) ≡ m = many-count First (l .taken) (a .good .sixteen) sh room (l .sent) q (a .good .holds) in
+      let buffer : sentBuffer c (replicate room 0) ≡ sendWords (widths First) room sh q ++ drop (length (sendWords (widths First) room sh q)) (replicate room 0) =
       ap (λ (d : Chip). sentBuffer d (replicate room 0)) (a .is) ∙ filled q sh room (for-inside l q sh (a .good)) in
-      ap₂ (λ (n : ℕ) (b : List ℕ). take (l .sent) (wordsOfAll (l .taken)) ++ take n b) (k .value) buffer
-      ∙ ap (λ (b : List ℕ). take (l .sent) (wordsOfAll (l .taken)) ++ b) (take-at (sendWords room sh q) (drop (length (sendWords room sh q)) (replicate room 0)) m size ∙ x .0)
-      ∙ sym (take-add (l .sent) m (wordsOfAll (l .taken)))
+      ap₂ (λ (n : ℕ) (b : List ℕ). take (l .sent) (wordsOfAll First (l .taken)) ++ take n b) (k .value) buffer
+      ∙ ap (λ (b : List ℕ). take (l .sent) (wordsOfAll First (l .taken)) ++ b) (take-at (sendWords (widths First) room sh q) (drop (length (sendWords (widths First) room sh q)) (replicate room 0)) m size ∙ x .0)
+      ∙ sym (take-add (l .sent) m (wordsOfAll First (l .taken)))
     where
-      filled : (q : Queue) (sh : List ℕ) (n : ℕ) → inside (chipFor l q sh) ≡ true → sentBuffer (chipFor l q sh) (replicate n 0) ≡ sendWords n sh q ++ drop (length (sendWords n sh q)) (replicate n 0)
+      filled : (q : Queue) (sh : List ℕ) (n : ℕ) → inside (chipFor l q sh) ≡ true → sentBuffer (chipFor l q sh) (replicate n 0) ≡ sendWords (widths First) n sh q ++ drop (length (sendWords (widths First) n sh q)) (replicate n 0)
       filled q sh n e =
-          ap (λ (b : Bool). cond b (sendBuffer sh q (replicate n 0)) (replicate n 0)) e
-          ∙ ap (λ (w : ℕ). sendWords w sh q ++ drop (length (sendWords w sh q)) (replicate n 0)) (length-replicate n 0)
+          ap (λ (b : Bool). cond b (sendBuffer (widths First) sh q (replicate n 0)) (replicate n 0)) e
+          ∙ ap (λ (w : ℕ). sendWords (widths First) w sh q ++ drop (length (sendWords (widths First) w sh q)) (replicate n 0)) (length-replicate n 0)
 
-  pub stream-step : (op : Operation) (ws : List ℕ) → ws ≡ take (l .sent) (wordsOfAll (l .taken)) → streamAfter op c ws ≡ take (entryOf op l .ledger .sent) (wordsOfAll (entryOf op l .ledger .taken))
+  pub stream-step : (op : Operation) (ws : List ℕ) → ws ≡ take (l .sent) (wordsOfAll First (l .taken)) → streamAfter op c ws ≡ take (entryOf op l .ledger .sent) (wordsOfAll First (entryOf op l .ledger .taken))
   unfolding streamAfter entryOf wordsOfAll written byRange vacant writtenLow
   stream-step opReset ws e = refl
   stream-step (opWrite address bits lines) ws e = go (eqb address 0) refl
     where
-      go : (b : Bool) → eqb address 0 ≡ b → cond b [] ws ≡ take (written address bits lines l .ledger .sent) (wordsOfAll (written address bits lines l .ledger .taken))
-      go true t = ap (λ (x : ℕ). take (written x bits lines l .ledger .sent) (wordsOfAll (written x bits lines l .ledger .taken))) (sym (eqb-true address 0 t))
+      go : (b : Bool) → eqb address 0 ≡ b → cond b [] ws ≡ take (written address bits lines l .ledger .sent) (wordsOfAll First (written address bits lines l .ledger .taken))
+      go true t = ap (λ (x : ℕ). take (written x bits lines l .ledger .sent) (wordsOfAll First (written x bits lines l .ledger .taken))) (sym (eqb-true address 0 t))
       go false t = e ∙ sym (write-stream address bits lines l t sent-within .is)
   stream-step (opRead address) ws e = e ∙ sym (read-stream address l .is)
   stream-step (opTicks k) ws e = e
@@ -149,7 +150,7 @@ module _ (l : Ledger) (c : Chip) (a : Agrees l c) where
 -- ---- the words still to come
 
 -- n tries give the first n of the words that are left
-pub come-words : (n : ℕ) (l : Ledger) (c : Chip) → Agrees l c → comeWithin n c ≡ take n (drop (l .sent) (wordsOfAll (l .taken)))
+pub come-words : (n : ℕ) (l : Ledger) (c : Chip) → Agrees l c → comeWithin n c ≡ take n (drop (l .sent) (wordsOfAll First (l .taken)))
 unfolding comeWithin entryOf
 come-words zero l c a = refl
 come-words (suc n) l c a = go (eqb (left l) 0) refl (k .number) (k .value) (come-words n (entryOf opSend l .ledger) (step opSend c .chip) (k .agrees))
@@ -158,40 +159,18 @@ come-words (suc n) l c a = go (eqb (left l) 0) refl (k .number) (k .value) (come
     k = agrees-step opSend l c a
 
     told : Bool → Entry
-    told b = cond b (tells 5 0 l) (tells 0 (getD (wordsOfAll (l .taken)) (l .sent) 0) (sentMore 1 l))
+    told b = cond b (tells 5 0 l) (tells 0 (getD (wordsOfAll First (l .taken)) (l .sent) 0) (sentMore 1 l))
 
-    go : (b : Bool) → eqb (left l) 0 ≡ b → step opSend c .number ≡ told b .number → step opSend c .value ≡ told b .value → comeWithin n (step opSend c .chip) ≡ take n (drop (told b .ledger .sent) (wordsOfAll (told b .ledger .taken))) → cond (eqb (step opSend c .number) 5) [] (step opSend c .value ∷ comeWithin n (step opSend c .chip)) ≡ take (suc n) (drop (l .sent) (wordsOfAll (l .taken)))
+    go : (b : Bool) → eqb (left l) 0 ≡ b → step opSend c .number ≡ told b .number → step opSend c .value ≡ told b .value → comeWithin n (step opSend c .chip) ≡ take n (drop (told b .ledger .sent) (wordsOfAll First (told b .ledger .taken))) → cond (eqb (step opSend c .number) 5) [] (step opSend c .value ∷ comeWithin n (step opSend c .chip)) ≡ take (suc n) (drop (l .sent) (wordsOfAll First (l .taken)))
     go true e m v ih =
-        let none : drop (l .sent) (wordsOfAll (l .taken)) ≡ [] =
-        drop-of-length-le (wordsOfAll (l .taken)) {i = l .sent} (subst (λ (x : ℕ). x ≤ l .sent) (sym (words-total (l .taken) (a .good .sixteen))) (omega (arith, eqb-true (left l) 0 e))) in
+        let none : drop (l .sent) (wordsOfAll First (l .taken)) ≡ [] =
+        drop-of-length-le (wordsOfAll First (l .taken)) {i = l .sent} (subst (λ (x : ℕ). x ≤ l .sent) (sym (words-total First (l .taken) (a .good .sixteen))) (omega (arith, eqb-true (left l) 0 e))) in
         ap (λ (x : ℕ). cond (eqb x 5) [] (step opSend c .value ∷ comeWithin n (step opSend c .chip))) m
         ∙ ap (take (suc n)) (sym none)
     go false e m v ih =
         let f : left l ≡ 0 → ⊥ = eqb-false (left l) 0 e in
         let one : l .sent + min 1 (left l) ≡ suc (l .sent) = omega arith in
-        let here : l .sent < length (wordsOfAll (l .taken)) = subst (λ (x : ℕ). l .sent < x) (sym (words-total (l .taken) (a .good .sixteen))) (omega arith) in
+        let here : l .sent < length (wordsOfAll First (l .taken)) = subst (λ (x : ℕ). l .sent < x) (sym (words-total First (l .taken) (a .good .sixteen))) (omega arith) in
         ap (λ (x : ℕ). cond (eqb x 5) [] (step opSend c .value ∷ comeWithin n (step opSend c .chip))) m
-        ∙ ap₂ (λ (w : ℕ) (r : List ℕ). w ∷ r) v (ih ∙ ap (λ (x : ℕ). take n (drop x (wordsOfAll (l .taken)))) one)
-        ∙ ap (take (suc n)) (sym (drop-cons (wordsOfAll (l .taken)) (l .sent) 0 here))
-
--- the held samples have at most 80 words each
-eighty : (s : Sample) → lengthOf s ≤ 80
-eighty s = go (resource (s .header))
-  where
-    go : (r : Bool) → cond r 80 16 ≤ 80
-    go true = omega arith
-    go false = omega arith
-
-total-bound : (ss : List Sample) → totalOf ss ≤ 80 * length ss
-unfolding totalOf
-total-bound [] = omega arith
-total-bound (s ∷ ss) = omega (arith, eighty s, total-bound ss)
-
-pub left-bound : (ss : List Sample) (n : ℕ) → totalOf ss - n ≤ 80 * length (heldOf ss n)
-unfolding totalOf heldOf
-left-bound [] n = omega arith
-left-bound (s ∷ ss) n = go (leb (lengthOf s) n) refl (left-bound ss (n - lengthOf s))
-  where
-    go : (b : Bool) → leb (lengthOf s) n ≡ b → totalOf ss - (n - lengthOf s) ≤ 80 * length (heldOf ss (n - lengthOf s)) → lengthOf s + totalOf ss - n ≤ 80 * length (cond b (heldOf ss (n - lengthOf s)) (s ∷ ss))
-    go true e ih = omega (arith, leb-true (lengthOf s) n e)
-    go false e ih = omega (arith, eighty s, total-bound ss)
+        ∙ ap₂ (λ (w : ℕ) (r : List ℕ). w ∷ r) v (ih ∙ ap (λ (x : ℕ). take n (drop x (wordsOfAll First (l .taken)))) one)
+        ∙ ap (take (suc n)) (sym (drop-cons (wordsOfAll First (l .taken)) (l .sent) 0 here))

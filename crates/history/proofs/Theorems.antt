@@ -6,9 +6,10 @@ use mathlib.Core.Path.{_≡_, refl, sym, ap, ap₂, _∙_}
 use mathlib.Core.Bool.{Bool, true, false, cond}
 use mathlib.Core.List.{List, [], _∷_, _++_}
 use lib.Dec.{eqb, leb}
-use lib.ListN.{length, take, drop, getD, length-drop, take-append-drop, replicate}
+use lib.ListN.{length, take, drop, getD, take-append-drop, replicate}
 use lib.Seq.{take-all}
 use borrow.Author.Tests.{lt-ltb}
+use Rattle.samples.specs.declared.edition.Edition.the-variants.{First}
 use Rattle.queue.specs.Queue.{emptyQueue}
 use Rattle.chip.specs.Chip.{fresh, inside}
 use Rattle.chip.specs.Operation.{Operation, opWrite, step}
@@ -16,16 +17,16 @@ use Rattle.chip.specs.Shape.{Shaped}
 use Rattle.chip.specs.declared.chip.Chip.{Chip}
 use Rattle.chip.proofs.Bounds.{fresh-shaped, keeps-shaped}
 use Rattle.chip.proofs.Bounds.{never-15 as inside-never-15}
-use Rattle.history.specs.Ledger.{Entry, Fate, Ledger, byFate, fateIn, fateNumber, ledgerFrom, ledgerOf, left, lineIn, noCounter, resetAt, tells, entryOf, triggered, written}
+use Rattle.history.specs.Ledger.{Entry, Fate, Ledger, byFate, fateIn, fateNumber, ledgerFrom, ledgerOf, lineIn, noCounter, resetAt, tells, entryOf, triggered, written}
 use Rattle.history.specs.Run.{chipOf, comeWithin, runFrom, sentFrom, sentOf, toCome}
 use Rattle.history.specs.Stream.{totalOf, wordsOfAll}
 use Rattle.history.proofs.Addresses.{range-trigger}
 use Rattle.history.proofs.Agrees.{Agrees, for-inside}
 use Rattle.history.proofs.CountLaws.{value-at}
-use Rattle.history.proofs.HeldLaws.{words-total}
-use Rattle.history.proofs.HoldsLaws.{held-count}
+use Rattle.history.proofs.HeldLaws.{words-left, words-total}
+use Rattle.history.proofs.HoldsLaws.{holds-left}
 use Rattle.history.proofs.Steps.{agrees-step, reset-good, reset-record}
-use Rattle.history.proofs.StreamLaws.{come-words, left-bound, stream-step}
+use Rattle.history.proofs.StreamLaws.{come-words, stream-step}
 
 -- ---- the fold
 
@@ -40,7 +41,7 @@ run-agrees (op ∷ ops) l c a = run-agrees ops (entryOf op l .ledger) (step op c
 agrees : (ops : List Operation) → Agrees (ledgerOf ops) (chipOf ops)
 agrees ops = run-agrees ops (resetAt 0) fresh fresh-agrees
 
-run-stream : (ops : List Operation) (l : Ledger) (c : Chip) (ws : List ℕ) → Agrees l c → ws ≡ take (l .sent) (wordsOfAll (l .taken)) → sentFrom c ws ops ≡ take (ledgerFrom l ops .sent) (wordsOfAll (ledgerFrom l ops .taken))
+run-stream : (ops : List Operation) (l : Ledger) (c : Chip) (ws : List ℕ) → Agrees l c → ws ≡ take (l .sent) (wordsOfAll First (l .taken)) → sentFrom c ws ops ≡ take (ledgerFrom l ops .sent) (wordsOfAll First (ledgerFrom l ops .taken))
 unfolding ledgerFrom sentFrom
 run-stream [] l c ws a e = e
 run-stream (op ∷ ops) l c ws a e = run-stream ops (entryOf op l .ledger) (step op c .chip) _ (agrees-step op l c a .agrees) (stream-step l c a op ws e)
@@ -65,33 +66,33 @@ trigger-fate ops address bits lines p h e =
 -- ---- 2. The words sent since the last reset, then the words still to come, are the words of the samples taken since then
 
 -- at most 640 words are ever left
-left-few : (ops : List Operation) → length (drop (ledgerOf ops .sent) (wordsOfAll (ledgerOf ops .taken))) ≤ 640
+left-few : (ops : List Operation) → length (drop (ledgerOf ops .sent) (wordsOfAll First (ledgerOf ops .taken))) ≤ 640
 left-few ops =
     let l : Ledger = ledgerOf ops in
     let a : Agrees l (chipOf ops) = agrees ops in
-    let rest : length (drop (l .sent) (wordsOfAll (l .taken))) ≡ left l = length-drop (l .sent) (wordsOfAll (l .taken)) ∙ ap (λ (n : ℕ). n - l .sent) (words-total (l .taken) (a .good .sixteen)) in
-    omega (arith, left-bound (l .taken) (l .sent), held-count (l .taken) (l .sent) (a .shadows) (a .queue) (a .good .holds), a .good .holds .few)
+    omega
+    (arith, words-left First (l .taken) (l .sent) (a .good .sixteen), holds-left First (l .taken) (l .sent) (a .shadows) (a .queue) (a .good .holds))
 
-pub to-come : (ops : List Operation) → toCome (chipOf ops) ≡ drop (ledgerOf ops .sent) (wordsOfAll (ledgerOf ops .taken))
-to-come ops = come-words 640 (ledgerOf ops) (chipOf ops) (agrees ops) ∙ take-all 640 (drop (ledgerOf ops .sent) (wordsOfAll (ledgerOf ops .taken))) (left-few ops)
+pub to-come : (ops : List Operation) → toCome (chipOf ops) ≡ drop (ledgerOf ops .sent) (wordsOfAll First (ledgerOf ops .taken))
+to-come ops = come-words 640 (ledgerOf ops) (chipOf ops) (agrees ops) ∙ take-all 640 (drop (ledgerOf ops .sent) (wordsOfAll First (ledgerOf ops .taken))) (left-few ops)
 
 -- more tries than 640 find no more words: reply 5 has come by then
 pub come-enough : (ops : List Operation) (more : ℕ) → comeWithin (640 + more) (chipOf ops) ≡ toCome (chipOf ops)
 come-enough ops more =
     come-words (640 + more) (ledgerOf ops) (chipOf ops) (agrees ops)
-    ∙ take-all (640 + more) (drop (ledgerOf ops .sent) (wordsOfAll (ledgerOf ops .taken))) (omega (arith, left-few ops))
+    ∙ take-all (640 + more) (drop (ledgerOf ops .sent) (wordsOfAll First (ledgerOf ops .taken))) (omega (arith, left-few ops))
     ∙ sym (to-come ops)
 
-pub word-sum : (ops : List Operation) → sentOf ops ++ toCome (chipOf ops) ≡ wordsOfAll (ledgerOf ops .taken)
+pub word-sum : (ops : List Operation) → sentOf ops ++ toCome (chipOf ops) ≡ wordsOfAll First (ledgerOf ops .taken)
 unfolding wordsOfAll
 word-sum ops =
     ap₂ (λ (x y : List ℕ). x ++ y) (run-stream ops (resetAt 0) fresh [] fresh-agrees refl) (to-come ops)
-    ∙ take-append-drop (ledgerOf ops .sent) (wordsOfAll (ledgerOf ops .taken))
+    ∙ take-append-drop (ledgerOf ops .sent) (wordsOfAll First (ledgerOf ops .taken))
 
 -- ---- 3. So their number is 16 for each Trace and 80 for each Resource sample taken
 
-pub word-count : (ops : List Operation) → length (sentOf ops ++ toCome (chipOf ops)) ≡ totalOf (ledgerOf ops .taken)
-word-count ops = ap length (word-sum ops) ∙ words-total (ledgerOf ops .taken) (agrees ops .good .sixteen)
+pub word-count : (ops : List Operation) → length (sentOf ops ++ toCome (chipOf ops)) ≡ totalOf First (ledgerOf ops .taken)
+word-count ops = ap length (word-sum ops) ∙ words-total First (ledgerOf ops .taken) (agrees ops .good .sixteen)
 
 -- ---- 4. The Overrun Counter is the lost triggers since its last clearing, modulo 2^32
 

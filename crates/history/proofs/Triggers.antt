@@ -1,6 +1,5 @@
 -- A trigger does to the chip what its fate by the list says. Assumes nothing.
 use Prim.Native.Nat.{ℕ, _+_, _-_, _%_, _^_, _<_}
-use native.Mathlib.Omega.{arith}
 use mathlib.Core.Path.{_≡_, refl, sym, ap, ap₂, _∙_, subst}
 use mathlib.Core.Bool.{Bool, true, false, cond, _&&_, _||_, false≢true}
 use mathlib.Core.List.{List, [], _∷_, _++_, map}
@@ -9,19 +8,20 @@ use lib.ListN.{length, getD, replicate, length-map}
 use lib.Pow.{mod-mod-pow}
 use borrow.Author.Tests.{leb-false, ltb-true}
 use Rattle.samples.specs.Layout.{resource}
+use Rattle.samples.specs.declared.edition.Edition.the-variants.{First}
 use Rattle.samples.specs.declared.sample.Sample.{Sample}
 use Rattle.counters.specs.Bank.{bit, copied}
 use Rattle.queue.specs.Queue.{busy, full, heldSample, pushed}
 use Rattle.queue.specs.declared.queue.Held.{Held}
 use Rattle.queue.specs.declared.queue.Queue.{Queue}
-use Rattle.control.specs.Control.{headerOf, one, overran, waited}
+use Rattle.control.specs.Control.{headerOf, overran, waited}
 use Rattle.control.specs.Control.{withErrors as Control·withErrors}
 use Rattle.control.specs.Fate.{fate, isOff, isFiltered, isLost, isTold, isTaken}
 use Rattle.control.specs.Fate.{Fate as Chip·Fate}
 use Rattle.control.specs.declared.control.Control.{Control}
 use Rattle.control.specs.declared.reply.Reply.the-variants.{Lines, Wait}
 use Rattle.control.proofs.HeaderLaws.{header-kind}
-use Rattle.chip.specs.Chip.{blocked, fateOf, lacksRoom, lineOf, oneLine, replied, sampleNow, trigger, triggerBy, withControl}
+use Rattle.chip.specs.Chip.{blocked, fateOf, lacksRoom, lineOf, replied, sampleNow, trigger, triggerBy, withControl}
 use Rattle.chip.specs.declared.chip.Chip.{Chip}
 use Rattle.counters.specs.declared.bank.Bank.{Bank}
 use Rattle.history.specs.Ledger.{Fate, Ledger, afterFate, byFate, fateIn, held, lineIn, lostOne, sampleIn, tells, triggered, unmarked, waitedOne, wasFiltered, wasLost, wasOff, wasTaken, wasTold, withErrors}
@@ -76,10 +76,10 @@ or-right false b e = e
 
 module _ (l : Ledger) (q : Queue) (sh : List ℕ) (g : Good l q sh) where
   full-same : full q ≡ isFull (held l)
-  full-same = holds-full (l .taken) (l .sent) sh q (g .holds)
+  full-same = holds-full First (l .taken) (l .sent) sh q (g .holds)
 
   busy-same : busy q ≡ anyHeld (held l)
-  busy-same = holds-busy (l .taken) (l .sent) sh q (g .holds)
+  busy-same = holds-busy First (l .taken) (l .sent) sh q (g .holds)
 
   blocked-same : (r : Bool) → blocked r q ≡ isBlocked r (held l)
   blocked-same r = ap (λ (b : Bool). r && b) busy-same
@@ -117,16 +117,16 @@ module _ (l : Ledger) (q : Queue) (sh : List ℕ) (g : Good l q sh) where
   sample-sixteen false line bits = refl
 
   -- the shadows may be written by a Resource trigger that finds room
-  shadowed : (r : Bool) → blocked r q ≡ false → Holds (l .taken) (l .sent) (cond r (map valueOf (l .counters)) sh) q
-  shadowed true free = holds-copied (l .taken) (l .sent) sh q (g .holds) (map valueOf (l .counters)) free
+  shadowed : (r : Bool) → blocked r q ≡ false → Holds First (l .taken) (l .sent) (cond r (map valueOf (l .counters)) sh) q
+  shadowed true free = holds-copied First (l .taken) (l .sent) sh q (g .holds) (map valueOf (l .counters)) free
   shadowed false free = g .holds
 
-  taken-holds : (r : Bool) (line bits : ℕ) → line < 8 → lacksRoom r q ≡ false → Holds (l .taken ++ (sampleIn r line bits l ∷ [])) (l .sent) (cond r (map valueOf (l .counters)) sh) (pushed (sampleNow r line bits (chipFor l q sh)) q)
+  taken-holds : (r : Bool) (line bits : ℕ) → line < 8 → lacksRoom r q ≡ false → Holds First (l .taken ++ (sampleIn r line bits l ∷ [])) (l .sent) (cond r (map valueOf (l .counters)) sh) (pushed (sampleNow r line bits (chipFor l q sh)) q)
   taken-holds r line bits h room =
       let sh′ : List ℕ = cond r (map valueOf (l .counters)) sh in
       let place : Held = sampleNow r line bits (chipFor l q sh) in
-      subst (λ (s : Sample). Holds (l .taken ++ (s ∷ [])) (l .sent) sh′ (pushed place q)) (sample-same r line bits h)
-      (holds-pushed (l .taken) (l .sent) sh′ q (shadowed r (or-right (full q) (blocked r q) room)) place (leb-false 8 (q .held) (or-left (full q) (blocked r q) room)))
+      subst (λ (s : Sample). Holds First (l .taken ++ (s ∷ [])) (l .sent) sh′ (pushed place q)) (sample-same r line bits h)
+      (holds-pushed First (l .taken) (l .sent) sh′ q (shadowed r (or-right (full q) (blocked r q) room)) place (leb-false 8 (q .held) (or-left (full q) (blocked r q) room)))
 
   bank-same : (r : Bool) → _≡_ {A = Bank} (cond r (copied (record { values = map valueOf (l .counters); shadows = sh })) (record { values = map valueOf (l .counters); shadows = sh })) (record { values = map valueOf (l .counters); shadows = cond r (map valueOf (l .counters)) sh })
   bank-same true = refl

@@ -6,6 +6,7 @@ use mathlib.Core.Bool.{Bool, true, false, cond, _&&_, _||_}
 use mathlib.Core.List.{List, [], _∷_, _++_, map}
 use lib.Dec.{eqb, leb, ltb}
 use lib.ListN.{getD, replicate, set}
+use Rattle.samples.specs.declared.edition.Edition.the-variants.{First}
 use Rattle.samples.specs.declared.sample.Sample.{Sample}
 use Rattle.chip.specs.Operation.{Operation, opReset, opWrite, opRead, opTicks, opNodes, opEvents, opSend, opFill}
 use Rattle.history.specs.Stream.{anyHeld, heldOf, isBlocked, isFull, totalOf, wordsOfAll}
@@ -161,7 +162,7 @@ lineIn lines = lineNumber (lines % 256)
 
 -- "say which are held"
 abbrev pub held : Ledger → List Sample
-held l = heldOf (l .taken) (l .sent)
+held l = heldOf First (l .taken) (l .sent)
 
 -- demand 3: off, filtered, lost, told to wait, or taken
 pub data Fate : Type 0 where
@@ -328,7 +329,7 @@ readIn a l =
 
 -- "A send that finds n words left and has room for m sends the smaller number"
 abbrev pub left : Ledger → ℕ
-left l = totalOf (l .taken) - l .sent
+left l = totalOf First (l .taken) - l .sent
 
 abbrev pub sentMore : ℕ → Ledger → Ledger
 sentMore room l = withStream (l .taken) (l .sent + min room (left l)) l
@@ -341,7 +342,7 @@ entryOf (opRead address) l = readIn address l
 entryOf (opTicks k) l = tells 0 0 (withTicks k (happened slow (λ i. true) (slowIn (l .ticks) k) l))
 entryOf (opNodes k) l = tells 0 0 (happened node (λ i. true) k l)
 entryOf (opEvents mask) l = tells 0 0 (happened external (isSet mask) 1 l)
-entryOf opSend l = cond (eqb (left l) 0) (tells 5 0 l) (tells 0 (getD (wordsOfAll (l .taken)) (l .sent) 0) (sentMore 1 l))
+entryOf opSend l = cond (eqb (left l) 0) (tells 5 0 l) (tells 0 (getD (wordsOfAll First (l .taken)) (l .sent) 0) (sentMore 1 l))
 entryOf (opFill room) l = tells 0 (min room (left l)) (sentMore room l)
 
 -- ---- the fold

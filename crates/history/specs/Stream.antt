@@ -5,26 +5,29 @@ use mathlib.Core.Bool.{Bool, false, cond, _&&_, _||_}
 use mathlib.Core.List.{List, [], _∷_, _++_}
 use lib.Dec.{leb}
 use lib.ListN.{length}
-use Rattle.samples.specs.Layout.{firstChip, resource, sampleWords}
+use Rattle.samples.specs.Layout.{resource, sampleWords, widths}
+use Rattle.samples.specs.declared.edition.Edition.{Edition}
+use Rattle.samples.specs.declared.edition.Edition.the-variants.{First, Second}
 use Rattle.samples.specs.declared.sample.Sample.{Sample}
 
--- "That is 16 bytes. A Resource sample adds ..: 80", a word for each
-abbrev pub lengthOf : Sample → ℕ
-lengthOf s = cond (resource (s .header)) 80 16
+-- "That is 16 bytes. A Resource sample adds ..: 80", a word for each; document 02, Wish 9: "Samples are 20 and 84 bytes"
+abbrev pub lengthOf : Edition → Sample → ℕ
+lengthOf First s = cond (resource (s .header)) 80 16
+lengthOf Second s = cond (resource (s .header)) 84 20
 
 -- "in order with their lengths": the words of samples, one sample after the other, and how many that must be
-unfoldable pub wordsOfAll : List Sample → List ℕ
-wordsOfAll [] = []
-wordsOfAll (s ∷ ss) = sampleWords firstChip s ++ wordsOfAll ss
+unfoldable pub wordsOfAll : Edition → List Sample → List ℕ
+wordsOfAll ed [] = []
+wordsOfAll ed (s ∷ ss) = sampleWords (widths ed) s ++ wordsOfAll ed ss
 
-unfoldable pub totalOf : List Sample → ℕ
-totalOf [] = 0
-totalOf (s ∷ ss) = lengthOf s + totalOf ss
+unfoldable pub totalOf : Edition → List Sample → ℕ
+totalOf ed [] = 0
+totalOf ed (s ∷ ss) = lengthOf ed s + totalOf ed ss
 
 -- "A sample is held from its trigger until its last word is sent": of the samples taken, those not wholly among the n words sent
-unfoldable pub heldOf : List Sample → ℕ → List Sample
-heldOf [] n = []
-heldOf (s ∷ ss) n = cond (leb (lengthOf s) n) (heldOf ss (n - lengthOf s)) (s ∷ ss)
+unfoldable pub heldOf : Edition → List Sample → ℕ → List Sample
+heldOf ed [] n = []
+heldOf ed (s ∷ ss) n = cond (leb (lengthOf ed s) n) (heldOf ed ss (n - lengthOf ed s)) (s ∷ ss)
 
 -- "The shadows are busy while a Resource sample is held"
 unfoldable pub anyHeld : List Sample → Bool

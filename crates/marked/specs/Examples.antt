@@ -2,7 +2,8 @@
 use Prim.Native.Nat.{ℕ, suc}
 use mathlib.Core.List.{List, [], _∷_, _++_}
 use lib.ListN.{replicate}
-use Rattle.samples.specs.Layout.{firstChip, sampleWords}
+use Rattle.samples.specs.Layout.{sampleWords, widths}
+use Rattle.samples.specs.declared.edition.Edition.the-variants.{First}
 use Rattle.samples.specs.declared.sample.Sample.{Sample}
 use Rattle.chip.specs.Operation.{opWrite, opRead, opTicks, opNodes, opEvents, opSend}
 use Rattle.marked.specs.Table.{Line, Row, bytesAre, gives, readerSays, replies, script}
@@ -60,7 +61,7 @@ examples =
     ∷ bytesAre listingB (0 ∷ 5 ∷ 0 ∷ 0 ∷ 0 ∷ 3 ∷ 0 ∷ 0 ∷ 0 ∷ 0 ∷ 2 ∷ 1 ∷ 0 ∷ 0 ∷ 0 ∷ 0 ∷ []) 768
     -- and it is what Listing B's operations send, word by word
     ∷ script
-    (on ++ (replies (opWrite 16 5 0) 0 ∷ replies (opTicks 3) 0 ∷ gives (opWrite 96 258 1) 0 0 ∷ []) ++ sends (sampleWords firstChip listingB) ++ (gives opSend 5 0 ∷ []))
+    (on ++ (replies (opWrite 16 5 0) 0 ∷ replies (opTicks 3) 0 ∷ gives (opWrite 96 258 1) 0 0 ∷ []) ++ sends (sampleWords (widths First) listingB) ++ (gives opSend 5 0 ∷ []))
     -- M12 empty part → 20; the one word 0 → 22
     ∷ readerSays [] 20
     ∷ readerSays (0 ∷ []) 22

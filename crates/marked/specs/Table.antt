@@ -4,7 +4,8 @@ use mathlib.Core.Bool.{Bool, true, false, _&&_}
 use mathlib.Core.List.{List, [], _∷_}
 use lib.Dec.{eqb}
 use lib.ListN.{getD, length}
-use Rattle.samples.specs.Layout.{firstChip, sampleBytes, sampleWords}
+use Rattle.samples.specs.Layout.{sampleBytes, sampleWords, widths}
+use Rattle.samples.specs.declared.edition.Edition.the-variants.{First}
 use Rattle.samples.specs.Read.{readPart}
 use Rattle.samples.specs.declared.sample.Sample.{Sample}
 use Rattle.chip.specs.Chip.{fresh}
@@ -41,9 +42,9 @@ sameNumbers (x ∷ xs) (y ∷ ys) = eqb x y && sameNumbers xs ys
 unfoldable pub holds : Row → Bool
 holds (script ls) = runs ls fresh
 holds (bytesAre s bytes last) =
-    let words = sampleWords firstChip s in
-    sameNumbers (sampleBytes firstChip s) bytes && eqb (getD words (length words - 1) 0) last
-holds (readerSays words n) = eqb (readPart firstChip words .number) n
+    let words = sampleWords (widths First) s in
+    sameNumbers (sampleBytes (widths First) s) bytes && eqb (getD words (length words - 1) 0) last
+holds (readerSays words n) = eqb (readPart (widths First) words .number) n
 
 -- and of a table
 unfoldable pub allHold : List Row → Bool

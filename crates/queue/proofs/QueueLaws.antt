@@ -6,7 +6,7 @@ use mathlib.Core.Bool.{Bool, true, false, cond, _||_, false≢true, or-assoc, or
 use mathlib.Core.List.{List, [], _∷_, _++_}
 use lib.ListN.{length, take, drop, getD, replicate}
 use Rattle.words.proofs.WordLaws.{word-some}
-use Rattle.samples.specs.Layout.{firstChip, resource}
+use Rattle.samples.specs.Layout.{Widths, resource}
 use Rattle.samples.specs.declared.sample.Sample.{Sample}
 use Rattle.samples.proofs.SampleLaws.{sample-word}
 use Rattle.queue.specs.Queue.{anyResource, firstCount, firstHeld, heldSample, nextWord, zeroHeld}
@@ -69,7 +69,7 @@ held-sixteen shadows h e = go (resource (h .header))
     go false = refl
 
 -- the next word of a sample that is held is not 0
-pub next-some : (shadows : List ℕ) (q : Queue) → length shadows ≡ 16 → q .sent < firstCount q → nextWord shadows q ≡ 0 → ⊥
-next-some shadows q sixteen h e =
+pub next-some : (w : Widths) (shadows : List ℕ) (q : Queue) → length shadows ≡ 16 → q .sent < firstCount w q → nextWord w shadows q ≡ 0 → ⊥
+next-some w shadows q sixteen h e =
     let s : Sample = heldSample shadows (firstHeld q) in
-    word-some _ _ (sym (sample-word firstChip s (held-sixteen shadows (firstHeld q) sixteen) (q .sent) h) ∙ e)
+    word-some _ _ (sym (sample-word w s (held-sixteen shadows (firstHeld q) sixteen) (q .sent) h) ∙ e)

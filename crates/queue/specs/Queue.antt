@@ -1,10 +1,11 @@
--- Document 01, "Triggers and the queue" and, of sending, "The chip's operations": what is held, and sending it.
+-- Document 01, "Triggers and the queue" and, of sending, "The chip's operations": what is held, and sending it, over the widths of an
+-- edition's samples.
 use Prim.Native.Nat.{ℕ, zero, suc, _+_, _-_}
 use mathlib.Core.Bool.{Bool, false, cond, _&&_, _||_}
 use mathlib.Core.List.{List, [], _∷_, _++_}
 use lib.Dec.{leb, ltb, eqb}
 use lib.ListN.{length, take, drop, getD, set, replicate}
-use Rattle.samples.specs.Layout.{firstChip, resource, sampleLength, sampleWords}
+use Rattle.samples.specs.Layout.{Widths, resource, sampleLength, sampleWords}
 use Rattle.samples.specs.declared.sample.Sample.{Sample}
 use Rattle.queue.specs.declared.queue.Held.{Held}
 use Rattle.queue.specs.declared.queue.Queue.{Queue}
@@ -45,49 +46,49 @@ busy q = anyResource (take (q .held) (q .places))
 abbrev pub firstHeld : Queue → Held
 firstHeld q = getD (q .places) 0 zeroHeld
 
-abbrev pub firstCount : Queue → ℕ
-firstCount q = sampleLength firstChip (resource (firstHeld q .header))
+abbrev pub firstCount : Widths → Queue → ℕ
+firstCount w q = sampleLength w (resource (firstHeld q .header))
 
 -- the counts that operations leave: "Reply numbers", "The bounds for 15 .. (queue counts, places, ..)"
-abbrev pub insideQueue : Queue → Bool
-insideQueue q = leb (q .held) 8 && cond (eqb (q .held) 0) (eqb (q .sent) 0) (ltb (q .sent) (firstCount q))
+abbrev pub insideQueue : Widths → Queue → Bool
+insideQueue w q = leb (q .held) 8 && cond (eqb (q .held) 0) (eqb (q .sent) 0) (ltb (q .sent) (firstCount w q))
 
 -- one sample more, where there is a place
 abbrev pub pushed : Held → Queue → Queue
 pushed h q = cond (ltb (q .held) 8) (record { places = set (q .places) (q .held) h; held = q .held + 1; sent = q .sent }) q
 
 -- the word to send: the next one of the first sample
-abbrev pub nextWord : List ℕ → Queue → ℕ
-nextWord shadows q = getD (sampleWords firstChip (heldSample shadows (firstHeld q))) (q .sent) 0
+abbrev pub nextWord : Widths → List ℕ → Queue → ℕ
+nextWord w shadows q = getD (sampleWords w (heldSample shadows (firstHeld q))) (q .sent) 0
 
 -- "A sample is held .. until its last word is sent": then the others move down and the last place is empty
 abbrev pub shifted : Queue → Queue
 shifted q = record { places = drop 1 (q .places) ++ (zeroHeld ∷ []); held = q .held - 1; sent = 0 }
 
-abbrev pub advanced : Queue → Queue
-advanced q = cond (ltb (q .sent + 1) (firstCount q)) (record { places = q .places; held = q .held; sent = q .sent + 1 }) (shifted q)
+abbrev pub advanced : Widths → Queue → Queue
+advanced w q = cond (ltb (q .sent + 1) (firstCount w q)) (record { places = q .places; held = q .held; sent = q .sent + 1 }) (shifted q)
 
 -- "Send one word": the next one; with nothing held the queue stays, and the word is 0, which no sample's word is (`word-some` of words)
-abbrev pub sendOne : List ℕ → Queue → Sent
-sendOne shadows q =
-    cond (eqb (q .held) 0) (record { queue = q; word = 0 }) (record { queue = advanced q; word = nextWord shadows q })
+abbrev pub sendOne : Widths → List ℕ → Queue → Sent
+sendOne w shadows q =
+    cond (eqb (q .held) 0) (record { queue = q; word = 0 }) (record { queue = advanced w q; word = nextWord w shadows q })
 
 -- the words that single sends give, one after another, at most n and until nothing is held
-unfoldable pub sendWords : ℕ → List ℕ → Queue → List ℕ
-sendWords zero shadows q = []
-sendWords (suc n) shadows q = cond (eqb (q .held) 0) [] (nextWord shadows q ∷ sendWords n shadows (advanced q))
+unfoldable pub sendWords : Widths → ℕ → List ℕ → Queue → List ℕ
+sendWords w zero shadows q = []
+sendWords w (suc n) shadows q = cond (eqb (q .held) 0) [] (nextWord w shadows q ∷ sendWords w n shadows (advanced w q))
 
 -- and the queue after them
-unfoldable pub sendQueue : ℕ → Queue → Queue
-sendQueue zero q = q
-sendQueue (suc n) q = cond (eqb (q .held) 0) q (sendQueue n (advanced q))
+unfoldable pub sendQueue : Widths → ℕ → Queue → Queue
+sendQueue w zero q = q
+sendQueue w (suc n) q = cond (eqb (q .held) 0) q (sendQueue w n (advanced w q))
 
 -- "as many words as it has places or as are left, ..; it returns how many"
-unfoldable pub sendMany : ℕ → List ℕ → Queue → SentMany
-sendMany room shadows q = record { queue = sendQueue room q; count = length (sendWords room shadows q) }
+unfoldable pub sendMany : Widths → ℕ → List ℕ → Queue → SentMany
+sendMany w room shadows q = record { queue = sendQueue w room q; count = length (sendWords w room shadows q) }
 
 -- "the rest of the buffer untouched"
-unfoldable pub sendBuffer : List ℕ → Queue → List ℕ → List ℕ
-sendBuffer shadows q out =
-    let ws = sendWords (length out) shadows q in
+unfoldable pub sendBuffer : Widths → List ℕ → Queue → List ℕ → List ℕ
+sendBuffer w shadows q out =
+    let ws = sendWords w (length out) shadows q in
     ws ++ drop (length ws) out

@@ -1,4 +1,6 @@
 // The held samples, and sending them word by word. A Resource sample's counters stand in the shadows, which it keeps busy.
+use samples::edition::Edition;
+use samples::edition::trace_bytes;
 use samples::sample::counter_byte;
 use samples::sample::field_byte;
 use samples::sample::is_resource;
@@ -9,7 +11,7 @@ ghost use mathlib.Core.Bool.{cond};
 ghost use Prim.Native.Nat.{_-_, _<_, min};
 ghost use lib.ListN.{getD, length, set, take};
 ghost use Rattle.queue.specs.Queue.{advanced, anyResource, busy, emptyQueue, firstCount, full, heldSample, insideQueue, nextWord, pushed, sendBuffer, sendMany, sendOne, shifted, zeroHeld};
-ghost use Rattle.samples.specs.Layout.{firstChip, resource, sampleBytes, sampleLength};
+ghost use Rattle.samples.specs.Layout.{resource, sampleBytes, sampleLength, widths};
 
 // A held sample, but for a Resource sample's counters: no padding (24 bytes).
 pub struct Held {
@@ -79,8 +81,8 @@ impl Queue {
 
     // Whether the counts are ones that an operation can leave: at most eight held, fewer words of the first sent than it has, and none
     // sent where none is held.
-    pub fn inside(self) -> bool
-        ensures { λ r. ⌜ r ≡ insideQueue self ⌝ }
+    pub fn inside(self, edition: Edition) -> bool
+        ensures { λ r. ⌜ r ≡ insideQueue (widths edition) self ⌝ }
     {
         if 8 < self.held {
             return false;
@@ -88,15 +90,15 @@ impl Queue {
         if self.held == 0 {
             return self.sent == 0;
         }
-        self.sent < self.first_count()
+        self.sent < self.first_count(edition)
     }
 
     // How many words the first sample has.
-    fn first_count(self) -> usize
-        ensures { λ r. ⌜ r ≡ firstCount self ⌝ }
+    fn first_count(self, edition: Edition) -> usize
+        ensures { λ r. ⌜ r ≡ firstCount (widths edition) self ⌝ }
     {
         let first = self.places[0];
-        word_count(first.header)
+        word_count(edition, first.header)
     }
 
     // The queue with one more sample, if there is a place.
@@ -114,8 +116,8 @@ impl Queue {
     }
 
     // The next word, and the queue after it: with a sample's last word its place is free. With nothing held the word is 0.
-    pub fn send(self, shadows: [u32; 16]) -> Sent
-        ensures { λ r. ⌜ r ≡ sendOne shadows self ⌝ }
+    pub fn send(self, edition: Edition, shadows: [u32; 16]) -> Sent
+        ensures { λ r. ⌜ r ≡ sendOne (widths edition) shadows self ⌝ }
     {
         if self.held == 0 {
             return Sent {
@@ -123,17 +125,17 @@ impl Queue {
                 word: 0,
             };
         }
-        let word = self.next_word(shadows);
-        let queue = self.advanced();
+        let word = self.next_word(edition, shadows);
+        let queue = self.advanced(edition);
         Sent { queue, word }
     }
 }
 
 impl Queue {
     // As many words as the buffer has places or as are left; the rest of the buffer stays.
-    pub fn send_into(self, shadows: [u32; 16], out: &mut [u16]) -> SentMany
-        ensures { λ r. ⌜ r ≡ sendMany (length (now (out .entry))) shadows self ⌝ }
-        ensures { λ r. ⌜ now (out .exit) ≡ sendBuffer shadows self (now (out .entry)) ⌝ }
+    pub fn send_into(self, edition: Edition, shadows: [u32; 16], out: &mut [u16]) -> SentMany
+        ensures { λ r. ⌜ r ≡ sendMany (widths edition) (length (now (out .entry))) shadows self ⌝ }
+        ensures { λ r. ⌜ now (out .exit) ≡ sendBuffer (widths edition) shadows self (now (out .entry)) ⌝ }
     {
         let mut queue = self;
         let mut i = 0;
@@ -144,8 +146,8 @@ impl Queue {
                     count: i as u64,
                 };
             }
-            out[i] = queue.next_word(shadows);
-            let next = queue.advanced();
+            out[i] = queue.next_word(edition, shadows);
+            let next = queue.advanced(edition);
             queue = next;
             i += 1;
         }
@@ -156,23 +158,23 @@ impl Queue {
     }
 
     // The word that is next, 0 past the first sample's end.
-    fn next_word(self, shadows: [u32; 16]) -> u16
-        ensures { λ r. ⌜ r ≡ nextWord shadows self ⌝ }
+    fn next_word(self, edition: Edition, shadows: [u32; 16]) -> u16
+        ensures { λ r. ⌜ r ≡ nextWord (widths edition) shadows self ⌝ }
     {
         let first = self.places[0];
-        let count = word_count(first.header);
+        let count = word_count(edition, first.header);
         let sent = self.sent;
         if sent < count {
-            return word(held_byte(first, shadows, sent), sent + 1 == count);
+            return word(held_byte(edition, first, shadows, sent), sent + 1 == count);
         }
         0
     }
 
     // The queue after a word was sent.
-    fn advanced(mut self) -> Queue
-        ensures { λ r. ⌜ r ≡ advanced self ⌝ }
+    fn advanced(mut self, edition: Edition) -> Queue
+        ensures { λ r. ⌜ r ≡ advanced (widths edition) self ⌝ }
     {
-        let count = self.first_count();
+        let count = self.first_count(edition);
         let sent = self.sent;
         if sent < count - 1 {
             self.sent = sent + 1;
@@ -238,14 +240,15 @@ fn least(a: usize, b: usize) -> usize
 }
 
 // The byte at a place of a held sample.
-fn held_byte(h: Held, shadows: [u32; 16], place: usize) -> u8
-    requires { ⌜ place < sampleLength firstChip (resource (h .header)) ⌝ }
-    ensures { λ r. ⌜ r ≡ getD (sampleBytes firstChip (heldSample shadows h)) place 0 ⌝ }
+fn held_byte(edition: Edition, h: Held, shadows: [u32; 16], place: usize) -> u8
+    requires { ⌜ place < sampleLength (widths edition) (resource (h .header)) ⌝ }
+    ensures { λ r. ⌜ r ≡ getD (sampleBytes (widths edition) (heldSample shadows h)) place 0 ⌝ }
 {
-    if place < 16 {
-        return field_byte(h.header, h.source, h.stamp, h.user, place);
+    let first_counter = trace_bytes(edition);
+    if place < first_counter {
+        return field_byte(edition, h.header, h.source, h.stamp, h.user, place);
     }
-    counter_byte(shadows, place - 16)
+    counter_byte(shadows, place - first_counter)
 }
 
 // Whether one of the first `held` places has a Resource sample.

@@ -14,7 +14,7 @@ use Rattle.words.specs.Bytes.{number}
 use Rattle.words.specs.Word.{tooLarge, oddOnes, marked, byteOf}
 use Rattle.words.proofs.ByteLaws.{number-below}
 use Rattle.samples.specs.Read.{faultAt, found, foundBy, gather, isGood, orElse, readPart, refusal, sampleOf, scan, wanted}
-use Rattle.samples.specs.Layout.{Widths, firstChip, counterWidths, resource}
+use Rattle.samples.specs.Layout.{Widths, counterWidths, fieldWidths, resource, total}
 use Rattle.samples.specs.declared.sample.Sample.{Sample}
 use Rattle.samples.specs.declared.reader.Verdict.{Verdict}
 use Rattle.samples.specs.declared.reader.Verdict.the-variants.{Good, Unfinished, TooLarge, Parity, Header, Mark}
@@ -93,16 +93,20 @@ unfolding number
 header-byte [] = refl
 header-byte (w ∷ ws) = omega arith
 
--- a sample put together from the numbers at their places
-pub sample-read : (bs counters : List ℕ) (user stamp source header : ℕ) → user ≡ number (take 6 (drop 10 bs)) → stamp ≡ number (take 5 (drop 5 bs)) → source ≡ number (take 4 (drop 1 bs)) → header ≡ number (take 1 bs) → counters ≡ cond (resource header) (gather counterWidths (drop 16 bs)) (replicate 16 0) → _≡_ {A = Sample} (record { user = user; stamp = stamp; source = source; header = header; counters = counters }) (sampleOf firstChip bs)
-unfolding sampleOf gather
-sample-read bs counters user stamp source header u t s h c =
-    let u′ : user ≡ number (take 6 (drop 5 (drop 4 (drop 1 bs)))) =
-    u ∙ ap (λ (l : List ℕ). number (take 6 l)) (sym (ap (drop 5) (drop-drop 4 1 bs) ∙ drop-drop 5 5 bs)) in
-    let t′ : stamp ≡ number (take 5 (drop 4 (drop 1 bs))) = t ∙ ap (λ (l : List ℕ). number (take 5 l)) (sym (drop-drop 4 1 bs)) in
-    let c′ : counters ≡ cond (resource (number (take 1 bs))) (gather counterWidths (drop 16 bs)) (replicate 16 0) =
-    c ∙ ap (λ (n : ℕ). cond (resource n) (gather counterWidths (drop 16 bs)) (replicate 16 0)) h in
-    λ i. record { user = u′ i; stamp = t′ i; source = s i; header = h i; counters = c′ i }
+-- a sample put together from the numbers at their places; t and u are the bytes of Timestamp and user data, r is whether the header is a
+-- Resource sample's
+module _ (w : Widths) (bs : List ℕ) (t u : ℕ) (t-is : t ≡ w .stampBytes) (u-is : u ≡ w .userBytes) where
+  pub sample-read : (counters : List ℕ) (user stamp source header : ℕ) (r : Bool) → user ≡ number (take u (drop (5 + t) bs)) → stamp ≡ number (take t (drop 5 bs)) → source ≡ number (take 4 (drop 1 bs)) → header ≡ number (take 1 bs) → r ≡ resource header → counters ≡ cond r (gather counterWidths (drop (total (fieldWidths w)) bs)) (replicate 16 0) → _≡_ {A = Sample} (record { user = user; stamp = stamp; source = source; header = header; counters = counters }) (sampleOf w bs)
+  unfolding sampleOf gather
+  sample-read counters user stamp source header r us st so he kind cs =
+      let us′ : user ≡ number (take (w .userBytes) (drop (w .stampBytes) (drop 4 (drop 1 bs)))) =
+      us ∙ ap₂ (λ (m n : ℕ). number (take m (drop (5 + n) bs))) u-is t-is
+      ∙ ap (λ (l : List ℕ). number (take (w .userBytes) l)) (sym (ap (drop (w .stampBytes)) (drop-drop 4 1 bs) ∙ drop-drop (w .stampBytes) 5 bs)) in
+      let st′ : stamp ≡ number (take (w .stampBytes) (drop 4 (drop 1 bs))) =
+      st ∙ ap (λ (n : ℕ). number (take n (drop 5 bs))) t-is ∙ ap (λ (l : List ℕ). number (take (w .stampBytes) l)) (sym (drop-drop 4 1 bs)) in
+      let cs′ : counters ≡ cond (resource (number (take 1 bs))) (gather counterWidths (drop (total (fieldWidths w)) bs)) (replicate 16 0) =
+      cs ∙ ap (λ (b : Bool). cond b (gather counterWidths (drop (total (fieldWidths w)) bs)) (replicate 16 0)) (kind ∙ ap resource he) in
+      λ i. record { user = us′ i; stamp = st′ i; source = so i; header = he i; counters = cs′ i }
 
 -- a number read from k words is below 256 ^ k
 pub number-read : (k start : ℕ) (ws : List ℕ) (x : ℕ) → x ≡ number (take k (drop start (map byteOf ws))) → x < 256 ^ k

@@ -1,8 +1,9 @@
 -- Laws of a sample's bytes and words: the law of fields laid one after the other, at the fields and counters of a sample.
 -- Assumes nothing.
 use Prim.Native.Nat.{ℕ, suc, _+_, _-_, _≤_, _<_}
+use native.Mathlib.Nat.{add-sub-of-le}
 use native.Mathlib.Omega.{arith}
-use mathlib.Core.Path.{_≡_, refl, ap, ap₂, _∙_, subst}
+use mathlib.Core.Path.{_≡_, refl, sym, ap, ap₂, _∙_, subst}
 use mathlib.Core.Bool.{Bool, true, false, cond}
 use mathlib.Core.List.{List, [], _∷_}
 use lib.Dec.{eqb}
@@ -10,7 +11,7 @@ use lib.ListN.{getD, length, take, length-append, List·getD-eq-default}
 use Rattle.words.specs.Bytes.{byteAt}
 use Rattle.words.specs.Word.{wordOf, wordsOf}
 use Rattle.words.proofs.WordLaws.{words-length, words-at}
-use Rattle.samples.specs.Layout.{Widths, fieldBytes, fieldWidths, firstChip, total, counterBytes, counterWidths, sampleBytes, sampleWords, sampleLength, resource, spread}
+use Rattle.samples.specs.Layout.{Widths, fieldBytes, fieldWidths, total, counterBytes, counterWidths, sampleBytes, sampleWords, sampleLength, resource, spread}
 use Rattle.samples.specs.declared.sample.Sample.{Sample}
 use Rattle.samples.proofs.Spread.{at-add, at-before, below-append, spread-at, spread-below, spread-length}
 
@@ -25,34 +26,34 @@ at-field w header source stamp user k i j h e =
     ap (λ (p : ℕ). getD (fieldBytes w header source stamp user) p 0) e
     ∙ spread-at (fieldWidths w) (header ∷ source ∷ stamp ∷ user ∷ []) k j refl h
 
-pub at-none : (header source stamp user i : ℕ) → 16 ≤ i → getD (fieldBytes firstChip header source stamp user) i 0 ≡ 0
-at-none header source stamp user i l = List·getD-eq-default (fieldBytes firstChip header source stamp user) 0 (rw (fields-length firstChip header source stamp user) l)
+pub at-none : (w : Widths) (header source stamp user i : ℕ) → total (fieldWidths w) ≤ i → getD (fieldBytes w header source stamp user) i 0 ≡ 0
+at-none w header source stamp user i l = List·getD-eq-default (fieldBytes w header source stamp user) 0 (rw (fields-length w header source stamp user) l)
 
 -- the counters of a Resource sample, and nothing of a Trace sample's
 abbrev counterPart : Sample → List ℕ
 counterPart s = cond (resource (s .header)) (counterBytes (s .counters)) []
 
--- a sample's bytes at a place: of its fields below 16, of its counters after, and none after a Trace sample's fields
-module _ (s : Sample) (i : ℕ) where
-  pub sample-before : i < 16 → getD (sampleBytes firstChip s) i 0 ≡ getD (fieldBytes firstChip (s .header) (s .source) (s .stamp) (s .user)) i 0
+-- a sample's bytes at a place: of its fields below their number, of its counters after, and none after a Trace sample's fields
+module _ (w : Widths) (s : Sample) (i : ℕ) where
+  pub sample-before : i < total (fieldWidths w) → getD (sampleBytes w s) i 0 ≡ getD (fieldBytes w (s .header) (s .source) (s .stamp) (s .user)) i 0
   unfolding sampleBytes
   sample-before h =
-      at-before (fieldBytes firstChip (s .header) (s .source) (s .stamp) (s .user)) (counterPart s) 16 i
-      (fields-length firstChip (s .header) (s .source) (s .stamp) (s .user)) h
+      at-before (fieldBytes w (s .header) (s .source) (s .stamp) (s .user)) (counterPart s) (total (fieldWidths w)) i
+      (fields-length w (s .header) (s .source) (s .stamp) (s .user)) h
 
-  after : 16 ≤ i → getD (sampleBytes firstChip s) i 0 ≡ getD (counterPart s) (i - 16) 0
+  after : (n : ℕ) → n ≡ total (fieldWidths w) → n ≤ i → getD (sampleBytes w s) i 0 ≡ getD (counterPart s) (i - n) 0
   unfolding sampleBytes
-  after h =
-      let e : i ≡ 16 + (i - 16) = omega arith in
-      ap (λ (j : ℕ). getD (sampleBytes firstChip s) j 0) e
-      ∙ at-add (fieldBytes firstChip (s .header) (s .source) (s .stamp) (s .user)) (counterPart s) 16 (i - 16)
-      (fields-length firstChip (s .header) (s .source) (s .stamp) (s .user))
+  after n size h =
+      ap (λ (j : ℕ). getD (sampleBytes w s) j 0) (sym (add-sub-of-le h))
+      ∙ at-add (fieldBytes w (s .header) (s .source) (s .stamp) (s .user)) (counterPart s) n (i - n)
+      (fields-length w (s .header) (s .source) (s .stamp) (s .user) ∙ sym size)
 
-  pub sample-after : 16 ≤ i → resource (s .header) ≡ true → getD (sampleBytes firstChip s) i 0 ≡ getD (counterBytes (s .counters)) (i - 16) 0
-  sample-after h r = after h ∙ ap (λ (b : Bool). getD (cond b (counterBytes (s .counters)) []) (i - 16) 0) r
+  -- n is the number of bytes of the fields
+  pub sample-after : (n : ℕ) → n ≡ total (fieldWidths w) → n ≤ i → resource (s .header) ≡ true → getD (sampleBytes w s) i 0 ≡ getD (counterBytes (s .counters)) (i - n) 0
+  sample-after n size h r = after n size h ∙ ap (λ (b : Bool). getD (cond b (counterBytes (s .counters)) []) (i - n) 0) r
 
-  pub sample-trace : 16 ≤ i → resource (s .header) ≡ false → getD (sampleBytes firstChip s) i 0 ≡ 0
-  sample-trace h r = after h ∙ ap (λ (b : Bool). getD (cond b (counterBytes (s .counters)) []) (i - 16) 0) r
+  pub sample-trace : total (fieldWidths w) ≤ i → resource (s .header) ≡ false → getD (sampleBytes w s) i 0 ≡ 0
+  sample-trace h r = after (total (fieldWidths w)) refl h ∙ ap (λ (b : Bool). getD (cond b (counterBytes (s .counters)) []) (i - total (fieldWidths w)) 0) r
 
 -- a sample's bytes are bytes
 pub bytes-below : (w : Widths) (s : Sample) (i : ℕ) → getD (sampleBytes w s) i 0 < 256

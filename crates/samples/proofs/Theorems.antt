@@ -13,7 +13,7 @@ use borrow.Author.Tests.{lt-leb, leb-false, leb-true, lt-ltb, ltb-false, ltb-tru
 use Rattle.words.specs.Bytes.{lowBytes, number}
 use Rattle.words.specs.Word.{wordsOf, isLast, byteOf}
 use Rattle.words.proofs.WordLaws.{words-bytes, word-byte}
-use Rattle.samples.specs.Layout.{Widths, fieldWidths, counterWidths, counterBytes, fieldBytes, sampleBytes, sampleWords, sampleLength, resource, spread, total}
+use Rattle.samples.specs.Layout.{Widths, fieldWidths, counterWidths, fieldBytes, sampleBytes, sampleWords, sampleLength, resource, spread, total}
 use Rattle.samples.specs.Write.{Row, allZero, row, within, writable, writeAnswer, writeBuffer}
 use Rattle.samples.specs.Read.{Found, foundBy, gather, isGood, readPart, sampleOf, scan, wanted}
 use Rattle.samples.specs.declared.sample.Sample.{Sample}

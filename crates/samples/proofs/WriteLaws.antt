@@ -8,7 +8,7 @@ use lib.Dec.{eqb, ltb, lit<}
 use lib.ListN.{length, getD, drop, replicate}
 use lib.Seq.{drop-cons}
 use borrow.Author.Tests.{lt-ltb, le-ltb, le-leb, lt-leb}
-use Rattle.samples.specs.Layout.{Widths, counterWidths, fieldWidths, firstChip, resource, sampleLength, sampleWords}
+use Rattle.samples.specs.Layout.{Widths, counterWidths, fieldWidths, resource, sampleLength, sampleWords}
 use Rattle.samples.specs.Write.{allZero, row, within, writable, writeAnswer, writeBuffer}
 use Rattle.samples.specs.declared.sample.Sample.{Sample}
 
@@ -42,15 +42,15 @@ refuse-field w s k h =
     (above (fieldWidths w) (s .header ∷ s .source ∷ s .stamp ∷ s .user ∷ []) k h)
 
 -- header bits 5 to 7 are enough too, and with no fault left but the counters', they decide
-module _ (s : Sample) where
-  pub refuse-header : 32 ≤ s .header → writable firstChip s ≡ false
+module _ (w : Widths) (s : Sample) where
+  pub refuse-header : 32 ≤ s .header → writable w s ≡ false
   unfolding writable
   refuse-header h = simp (le-ltb (s .header) 32 h, and-false)
 
-  pub counters-decide : s .header < 32 → s .source < 256 ^ 4 → s .stamp < 256 ^ 5 → s .user < 256 ^ 6 → within counterWidths (s .counters) ≡ true → writable firstChip s ≡ resource (s .header) || allZero (s .counters)
+  pub counters-decide : s .header < 32 → s .source < 256 ^ 4 → s .stamp < 256 ^ w .stampBytes → s .user < 256 ^ w .userBytes → within counterWidths (s .counters) ≡ true → writable w s ≡ resource (s .header) || allZero (s .counters)
   unfolding writable within
   counters-decide h so st u c =
-      simp (lt-ltb (s .header) 256 (lt-trans h (lit< tt)), lt-ltb (s .source) (256 ^ 4) so, lt-ltb (s .stamp) (256 ^ 5) st, lt-ltb (s .user) (256 ^ 6) u, c, lt-ltb (s .header) 32 h)
+      simp (lt-ltb (s .header) 256 (lt-trans h (lit< tt)), lt-ltb (s .source) (256 ^ 4) so, lt-ltb (s .stamp) (256 ^ w .stampBytes) st, lt-ltb (s .user) (256 ^ w .userBytes) u, c, lt-ltb (s .header) 32 h)
 
 -- the writer's answer and buffer, case by case
 module _ (w : Widths) (s : Sample) (out : List ℕ) (n : ℕ) (size : n ≡ sampleLength w (resource (s .header))) where

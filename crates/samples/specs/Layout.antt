@@ -6,6 +6,8 @@ use lib.Dec.{eqb}
 use lib.ListN.{replicate}
 use Rattle.words.specs.Bytes.{lowBytes}
 use Rattle.words.specs.Word.{wordsOf}
+use Rattle.samples.specs.declared.edition.Edition.{Edition}
+use Rattle.samples.specs.declared.edition.Edition.the-variants.{First, Second}
 use Rattle.samples.specs.declared.sample.Sample.{Sample}
 
 -- the widths that the laws are over: how many bytes of Timestamp and of user data a sample has
@@ -13,15 +15,16 @@ pub record Widths : Type 0 where
   pub stampBytes : ℕ
   pub userBytes : ℕ
 
--- "Timestamp low 40 bits 5, user data low 48 bits 6"
-abbrev pub firstChip : Widths
-firstChip = record { stampBytes = 5; userBytes = 6 }
+-- "Timestamp low 40 bits 5, user data low 48 bits 6"; document 02, Wish 9: "user data 64 bits, .. Timestamp 56"
+abbrev pub widths : Edition → Widths
+widths First = record { stampBytes = 5; userBytes = 6 }
+widths Second = record { stampBytes = 7; userBytes = 8 }
 
 -- "bit 3 set for a Resource sample"
 abbrev pub resource : ℕ → Bool
 resource h = eqb (h / 8 % 2) 1
 
--- "header 1 byte, Source Address 4, Timestamp .. 5, user data .. 6": the bytes of each field
+-- "header 1 byte, Source Address 4, Timestamp .. 5, user data .. 6"; Wish 9: "Field order .. as in 01": the bytes of each field
 abbrev pub fieldWidths : Widths → List ℕ
 fieldWidths w = 1 ∷ 4 ∷ w .stampBytes ∷ w .userBytes ∷ []
 
@@ -59,6 +62,6 @@ abbrev pub total : List ℕ → ℕ
 total [] = 0
 total (n ∷ ns) = n + total ns
 
--- "That is 16 bytes. A Resource sample adds ..: 80"
+-- "That is 16 bytes. A Resource sample adds ..: 80"; Wish 9: "Samples are 20 and 84 bytes"
 abbrev pub sampleLength : Widths → Bool → ℕ
 sampleLength w r = total (fieldWidths w) + cond r (total counterWidths) 0

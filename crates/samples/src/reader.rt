@@ -1,4 +1,8 @@
 // The reader: the first sample of a part of a stream.
+use super::edition::Edition;
+use super::edition::stamp_bytes;
+use super::edition::trace_bytes;
+use super::edition::user_bytes;
 use super::sample::Sample;
 use super::sample::is_resource;
 use super::sample::word_count;
@@ -14,7 +18,7 @@ ghost use Prim.Native.Nat.{_+_, _<_, _≤_};
 ghost use lib.ListN.{length, take, drop};
 ghost use Rattle.words.specs.Bytes.{number};
 ghost use Rattle.words.specs.Word.{byteOf};
-ghost use Rattle.samples.specs.Layout.{firstChip, counterWidths};
+ghost use Rattle.samples.specs.Layout.{counterWidths, widths};
 ghost use Rattle.samples.specs.Read.{faultAt, found, gather, isGood, readPart, refusal, sampleOf, scan, verdictNumber, wanted};
 
 // What a reader finds of a word, or of the words of a part.
@@ -35,16 +39,16 @@ pub struct Reading {
 }
 
 // Reads the first sample of a part; what comes after it is not looked at.
-pub fn read(part: &[u16]) -> Reading
-    ensures { λ r. ⌜ found r ≡ readPart firstChip (now (part .entry)) ⌝ }
+pub fn read(edition: Edition, part: &[u16]) -> Reading
+    ensures { λ r. ⌜ found r ≡ readPart (widths edition) (now (part .entry)) ⌝ }
 {
     if part.len() == 0 {
         return refused(Verdict::Unfinished);
     }
-    let count = word_count(byte(part[0]) as u32);
+    let count = word_count(edition, byte(part[0]) as u32);
     let verdict = scan(part, count);
     if is_good(verdict) {
-        let sample = decode(part);
+        let sample = decode(edition, part);
         return Reading {
             sample,
             count,
@@ -128,21 +132,22 @@ fn bad_header(place: usize, word: u16) -> bool
 }
 
 // The sample whose words stand at the start of the part.
-fn decode(part: &[u16]) -> Sample
-    requires { ⌜ wanted firstChip (now part) ≤ length (now part) ⌝ }
-    ensures { λ r. ⌜ r ≡ sampleOf firstChip (map byteOf (now (part .entry))) ⌝ }
+fn decode(edition: Edition, part: &[u16]) -> Sample
+    requires { ⌜ wanted (widths edition) (now part) ≤ length (now part) ⌝ }
+    ensures { λ r. ⌜ r ≡ sampleOf (widths edition) (map byteOf (now (part .entry))) ⌝ }
 {
     let header = number_at(part, 0, 1) as u32;
     let source = number_at(part, 1, 4) as u32;
-    let stamp = number_at(part, 5, 5);
-    let user = number_at(part, 10, 6);
+    let stamp_size = stamp_bytes(edition);
+    let stamp = number_at(part, 5, stamp_size);
+    let user = number_at(part, 5 + stamp_size, user_bytes(edition));
     if is_resource(header) {
         return Sample {
             user,
             stamp,
             source,
             header,
-            counters: counters_of(part),
+            counters: counters_of(part, trace_bytes(edition)),
         };
     }
     Sample {
@@ -154,15 +159,15 @@ fn decode(part: &[u16]) -> Sample
     }
 }
 
-// The sixteen counters after the fields.
-fn counters_of(part: &[u16]) -> [u32; 16]
-    requires { ⌜ 80 ≤ length (now part) ⌝ }
-    ensures { λ r. ⌜ r ≡ gather counterWidths (drop 16 (map byteOf (now (part .entry)))) ⌝ }
+// The sixteen counters, from a place on.
+fn counters_of(part: &[u16], start: usize) -> [u32; 16]
+    requires { ⌜ start + 64 ≤ length (now part) ⌝ }
+    ensures { λ r. ⌜ r ≡ gather counterWidths (drop start (map byteOf (now (part .entry)))) ⌝ }
 {
     let mut counters = [0u32; 16];
     let mut i = 0;
     while i < 16 {
-        counters[i] = number_at(part, 16 + 4 * i, 4) as u32;
+        counters[i] = number_at(part, start + 4 * i, 4) as u32;
         i += 1;
     }
     counters

@@ -1,8 +1,11 @@
 // A sample by value, and the byte at each of its places.
+use super::edition::Edition;
+use super::edition::stamp_bytes;
+use super::edition::trace_bytes;
 use words::byte::byte_at;
 ghost use mathlib.Core.Path.{_≡_};
 ghost use lib.ListN.{getD};
-ghost use Rattle.samples.specs.Layout.{firstChip, resource, fieldBytes, counterBytes, sampleBytes, sampleLength, zeroSample};
+ghost use Rattle.samples.specs.Layout.{resource, fieldBytes, counterBytes, sampleBytes, sampleLength, widths, zeroSample};
 
 // Wide fields first, and the header as wide as the source address: no padding (88 bytes).
 pub struct Sample {
@@ -36,15 +39,27 @@ pub fn is_resource(header: u32) -> bool
 }
 
 // How many words a sample with this header has.
-pub fn word_count(header: u32) -> usize
-    ensures { λ r. ⌜ r ≡ sampleLength firstChip (resource header) ⌝ }
+pub fn word_count(edition: Edition, header: u32) -> usize
+    ensures { λ r. ⌜ r ≡ sampleLength (widths edition) (resource header) ⌝ }
 {
-    if is_resource(header) { 80 } else { 16 }
+    let trace = trace_bytes(edition);
+    if is_resource(header) {
+        trace + 64
+    } else {
+        trace
+    }
 }
 
 // The byte at a place of the four fields that every sample has; 0 past them.
-pub fn field_byte(header: u32, source: u32, stamp: u64, user: u64, place: usize) -> u8
-    ensures { λ r. ⌜ r ≡ getD (fieldBytes firstChip header source stamp user) place 0 ⌝ }
+pub fn field_byte(
+    edition: Edition,
+    header: u32,
+    source: u32,
+    stamp: u64,
+    user: u64,
+    place: usize,
+) -> u8
+    ensures { λ r. ⌜ r ≡ getD (fieldBytes (widths edition) header source stamp user) place 0 ⌝ }
 {
     if place < 1 {
         return byte_at(header as u64, place);
@@ -52,11 +67,12 @@ pub fn field_byte(header: u32, source: u32, stamp: u64, user: u64, place: usize)
     if place < 5 {
         return byte_at(source as u64, place - 1);
     }
-    if place < 10 {
+    let after_stamp = 5 + stamp_bytes(edition);
+    if place < after_stamp {
         return byte_at(stamp, place - 5);
     }
-    if place < 16 {
-        return byte_at(user, place - 10);
+    if place < trace_bytes(edition) {
+        return byte_at(user, place - after_stamp);
     }
     0
 }
@@ -74,11 +90,13 @@ pub fn counter_byte(counters: [u32; 16], place: usize) -> u8
 }
 
 // The byte at a place of a sample; 0 past its end.
-pub fn sample_byte(sample: Sample, place: usize) -> u8
-    ensures { λ r. ⌜ r ≡ getD (sampleBytes firstChip sample) place 0 ⌝ }
+pub fn sample_byte(edition: Edition, sample: Sample, place: usize) -> u8
+    ensures { λ r. ⌜ r ≡ getD (sampleBytes (widths edition) sample) place 0 ⌝ }
 {
-    if place < 16 {
+    let first_counter = trace_bytes(edition);
+    if place < first_counter {
         return field_byte(
+            edition,
             sample.header,
             sample.source,
             sample.stamp,
@@ -88,7 +106,7 @@ pub fn sample_byte(sample: Sample, place: usize) -> u8
     }
     if is_resource(sample.header) {
         let counters = sample.counters;
-        return counter_byte(counters, place - 16);
+        return counter_byte(counters, place - first_counter);
     }
     0
 }

@@ -1,4 +1,5 @@
 // The writer: a sample's words into a lent buffer.
+use super::edition::Edition;
 use super::sample::Sample;
 use super::sample::is_resource;
 use super::sample::sample_byte;
@@ -6,15 +7,18 @@ use super::sample::word_count;
 use words::word::word;
 ghost use mathlib.Core.Path.{_≡_};
 ghost use mathlib.Core.List.{_++_};
-ghost use Prim.Native.Nat.{_≤_};
+ghost use lib.Dec.{leb};
+ghost use Prim.Native.Nat.{_≤_, _^_};
 ghost use lib.ListN.{length, drop};
-ghost use Rattle.samples.specs.Layout.{firstChip, resource, sampleLength, sampleWords};
+ghost use Rattle.samples.specs.Layout.{resource, sampleLength, sampleWords, widths};
 ghost use Rattle.samples.specs.Write.{allZero, writable, writeAnswer, writeBuffer, writtenRow};
 
-// The first number above the widths of Timestamp and user data.
+// The first numbers above the widths of Timestamp and user data.
 const TWO_40: u64 = 1 << 40;
 
 const TWO_48: u64 = 1 << 48;
+
+const TWO_56: u64 = 1 << 56;
 
 // What writing a sample answers.
 pub enum Written {
@@ -26,15 +30,15 @@ pub enum Written {
     Short,
 }
 
-// Puts a sample's 16 or 80 words at the buffer's start and leaves the rest; a refusal leaves it all.
-pub fn write(sample: Sample, out: &mut [u16]) -> Written
-    ensures { λ r. ⌜ writtenRow r ≡ writeAnswer firstChip sample (length (now (out .entry))) ⌝ }
-    ensures { λ r. ⌜ now (out .exit) ≡ writeBuffer firstChip sample (now (out .entry)) ⌝ }
+// Puts a sample's words at the buffer's start and leaves the rest; a refusal leaves it all.
+pub fn write(edition: Edition, sample: Sample, out: &mut [u16]) -> Written
+    ensures { λ r. ⌜ writtenRow r ≡ writeAnswer (widths edition) sample (length (now (out .entry))) ⌝ }
+    ensures { λ r. ⌜ now (out .exit) ≡ writeBuffer (widths edition) sample (now (out .entry)) ⌝ }
 {
-    if can_write(sample) {
-        let count = word_count(sample.header);
+    if can_write(edition, sample) {
+        let count = word_count(edition, sample.header);
         if count <= out.len() {
-            fill(sample, count, out);
+            fill(edition, sample, count, out);
             return Written::Words(count);
         }
         return Written::Short;
@@ -43,16 +47,16 @@ pub fn write(sample: Sample, out: &mut [u16]) -> Written
 }
 
 // Whether each field is within its width, header bits 5 to 7 are clear, and a Trace sample has no counters.
-pub fn can_write(sample: Sample) -> bool
-    ensures { λ r. ⌜ r ≡ writable firstChip sample ⌝ }
+pub fn can_write(edition: Edition, sample: Sample) -> bool
+    ensures { λ r. ⌜ r ≡ writable (widths edition) sample ⌝ }
 {
     if 32 <= sample.header {
         return false;
     }
-    if TWO_40 <= sample.stamp {
+    if stamp_above(edition, sample.stamp) {
         return false;
     }
-    if TWO_48 <= sample.user {
+    if user_above(edition, sample.user) {
         return false;
     }
     if is_resource(sample.header) {
@@ -60,6 +64,26 @@ pub fn can_write(sample: Sample) -> bool
     }
     let counters = sample.counters;
     all_zero(counters)
+}
+
+// Whether a Timestamp is above its width.
+fn stamp_above(edition: Edition, stamp: u64) -> bool
+    ensures { λ r. ⌜ r ≡ leb (256 ^ widths edition .stampBytes) stamp ⌝ }
+{
+    match edition {
+        Edition::First => TWO_40 <= stamp,
+        Edition::Second => TWO_56 <= stamp,
+    }
+}
+
+// Whether user data is above its width: no number of 64 bits is above the second edition's.
+fn user_above(edition: Edition, user: u64) -> bool
+    ensures { λ r. ⌜ r ≡ leb (256 ^ widths edition .userBytes) user ⌝ }
+{
+    match edition {
+        Edition::First => TWO_48 <= user,
+        Edition::Second => false,
+    }
 }
 
 fn all_zero(counters: [u32; 16]) -> bool
@@ -76,14 +100,14 @@ fn all_zero(counters: [u32; 16]) -> bool
 }
 
 // The sample's words, from the buffer's start.
-fn fill(sample: Sample, count: usize, out: &mut [u16])
-    requires { ⌜ count ≡ sampleLength firstChip (resource (sample .header)) ⌝ }
+fn fill(edition: Edition, sample: Sample, count: usize, out: &mut [u16])
+    requires { ⌜ count ≡ sampleLength (widths edition) (resource (sample .header)) ⌝ }
     requires { ⌜ count ≤ length (now out) ⌝ }
-    ensures { λ _. ⌜ now (out .exit) ≡ sampleWords firstChip sample ++ drop count (now (out .entry)) ⌝ }
+    ensures { λ _. ⌜ now (out .exit) ≡ sampleWords (widths edition) sample ++ drop count (now (out .entry)) ⌝ }
 {
     let mut i = 0;
     while i < count {
-        out[i] = word(sample_byte(sample, i), i + 1 == count);
+        out[i] = word(sample_byte(edition, sample, i), i + 1 == count);
         i += 1;
     }
 }

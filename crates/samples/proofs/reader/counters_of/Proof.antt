@@ -19,12 +19,12 @@ use Rattle.samples.proofs.reader.counters_of.Statement.{statement}
 use Rattle.samples.proofs.reader.counters_of.Tie as tie
 
 abbrev Inv-loop : tie.InvT-loop
-Inv-loop part counters₀ i₀ counters i =
+Inv-loop part start counters₀ i₀ counters i =
     (i ≤ 16) × (length counters ≡ 16)
-    × (counters ≡ take i (gather counterWidths (drop 16 (map byteOf part))) ++ drop i counters₀)
+    × (counters ≡ take i (gather counterWidths (drop start (map byteOf part))) ++ drop i counters₀)
 
 abbrev μ-loop : tie.MeasureT-loop
-μ-loop part counters₀ i₀ counters i = 16 - i
+μ-loop part start counters₀ i₀ counters i = 16 - i
 
 loop-holds : tie.Need-loop-holds Inv-loop μ-loop
 loop-holds c = (search needs, refl, refl)
@@ -40,7 +40,7 @@ number-at-requires c κs = search needs
 
 cast-counters : tie.Need-cast-counters Inv-loop μ-loop
 cast-counters c =
-    record { fits = number-read 4 (16 + 4 * c .before .before .loop .i) (c .before .before .before .before .args .part .now) _ (c .number-at .ensures) }
+    record { fits = number-read 4 (c .before .before .before .before .args .start + 4 * c .before .before .loop .i) (c .before .before .before .before .args .part .now) _ (c .number-at .ensures) }
 
 mul-counters : tie.Need-mul-counters Inv-loop μ-loop
 mul-counters c = search needs
@@ -59,13 +59,14 @@ loop-again c =
     let l = c .before .before .loop in
     let i = l .i in
     let bytes = map byteOf (c .before .before .before .before .args .part .now) in
-    let all = gather counterWidths (drop 16 bytes) in
-    let long : length all ≡ 16 = gather-length counterWidths (drop 16 bytes) in
-    let place : 16 + 4 * i ≡ 16 + i * 4 = omega arith in
+    let start = c .before .before .before .before .args .start in
+    let all = gather counterWidths (drop start bytes) in
+    let long : length all ≡ 16 = gather-length counterWidths (drop start bytes) in
+    let place : start + 4 * i ≡ start + i * 4 = omega arith in
     let here : c .number-at .result ≡ getD all i 0 =
     c .number-at .ensures ∙ ap (λ (k : ℕ). number (take 4 (drop k bytes))) place
-    ∙ ap (λ (r : List ℕ). number (take 4 r)) (sym (drop-drop (i * 4) 16 bytes))
-    ∙ sym (gather-at 4 16 i (drop 16 bytes) (omega arith)) in (
+    ∙ ap (λ (r : List ℕ). number (take 4 r)) (sym (drop-drop (i * 4) start bytes))
+    ∙ sym (gather-at 4 16 i (drop start bytes) (omega arith)) in (
       search needs,
       length-set (l .counters) i (c .number-at .result) ∙ l .inv .1,
       rw add-one
@@ -75,11 +76,12 @@ loop-again c =
 returns : tie.Need-returns Inv-loop μ-loop
 returns c =
     let bytes = map byteOf (c .before .before .before .args .part .now) in
-    let all = gather counterWidths (drop 16 bytes) in
+    let start = c .before .before .before .args .start in
+    let all = gather counterWidths (drop start bytes) in
     let end : c .before .loop .i ≡ 16 = omega arith in
     c .before .loop .inv .2
     ∙ ap (λ (k : ℕ). take k all ++ drop k (replicate 16 0)) end
-    ∙ fill-all all (replicate 16 0) 16 (gather-length counterWidths (drop 16 bytes))
+    ∙ fill-all all (replicate 16 0) 16 (gather-length counterWidths (drop start bytes))
     ∙ append-nil all
 
 pub counters-of-spec : {M : Type 1} → statement M

@@ -6,7 +6,7 @@ use native.Mathlib.Nat.{zero-add}
 use mathlib.Core.Path.{_≡_, sym, ap, _∙_, subst}
 use mathlib.Core.Bool.{true}
 use lib.ListN.{length}
-use Rattle.samples.specs.Layout.{firstChip, resource, sampleLength}
+use Rattle.samples.specs.Layout.{resource, sampleLength, widths}
 use Rattle.samples.specs.Read.{found, isGood, refusal, scan, wanted}
 use Rattle.samples.proofs.ReadLaws.{read-good, read-bad, read-empty, scan-enough}
 use Rattle.samples.proofs.reader.read.Statement.{statement}
@@ -16,7 +16,7 @@ refused-requires : tie.Need-refused-requires
 refused-requires c κs = search needs
 
 returns : tie.Need-returns
-returns c = ap found (c .refused .ensures) ∙ read-empty firstChip (c .before .before .before .args .part .now) (c .before .if1 .taken)
+returns c = ap found (c .refused .ensures) ∙ read-empty (widths (c .before .before .before .args .edition)) (c .before .before .before .args .part .now) (c .before .if1 .taken)
 
 shared-slice-read-byte : tie.Need-shared-slice-read-byte
 shared-slice-read-byte c = search needs
@@ -37,8 +37,8 @@ is-good-requires : tie.Need-is-good-requires
 is-good-requires c κs = search needs
 
 -- the words that the code wants are those of the definition
-size : (c : tie.After-word-count) → c .word-count .result ≡ wanted firstChip (c .before .before .before .before .before .args .part .now)
-size c = c .word-count .ensures ∙ ap (λ (b : ℕ). sampleLength firstChip (resource b)) (c .before .byte .ensures)
+size : (c : tie.After-word-count) → c .word-count .result ≡ wanted (widths (c .before .before .before .before .before .args .edition)) (c .before .before .before .before .before .args .part .now)
+size c = c .word-count .ensures ∙ ap (λ (b : ℕ). sampleLength (widths (c .before .before .before .before .before .args .edition)) (resource b)) (c .before .byte .ensures)
 
 decode-requires : tie.Need-decode-requires
 decode-requires c κs =
@@ -52,7 +52,7 @@ returns-2 c =
     let d = c .before .before .before .before in
     let ws = d .before .before .before .before .before .args .part .now in
     let good : isGood (scan (d .word-count .result) 0 ws) ≡ true = ap isGood (sym (c .before .before .before .scan .ensures)) ∙ sym (c .before .before .is-good .ensures) ∙ c .before .if2 .taken in
-    read-good firstChip ws (d .word-count .result) (c .decode .result) (size d) good (c .decode .ensures)
+    read-good (widths (d .before .before .before .before .before .args .edition)) ws (d .word-count .result) (c .decode .result) (size d) good (c .decode .ensures)
 
 refused-requires-2 : tie.Need-refused-requires-2
 refused-requires-2 c κs = search needs
@@ -63,7 +63,7 @@ returns-3 c =
     let d = s .before in
     let ws = d .before .before .before .before .before .args .part .now in
     ap found (c .refused2 .ensures ∙ ap refusal (s .scan .ensures))
-    ∙ read-bad firstChip ws (d .word-count .result) (size d) (ap isGood (sym (s .scan .ensures)) ∙ sym (c .before .before .is-good .ensures) ∙ c .before .if2 .left)
+    ∙ read-bad (widths (d .before .before .before .before .before .args .edition)) ws (d .word-count .result) (size d) (ap isGood (sym (s .scan .ensures)) ∙ sym (c .before .before .is-good .ensures) ∙ c .before .if2 .left)
 
 pub read-spec : {M : Type 1} → statement M
 read-spec =

@@ -1,17 +1,23 @@
--- `samples::sample::sample_byte` meets its contract: the four fields take places 0 to 15, the counters those after. Assumes nothing.
+-- `samples::sample::sample_byte` meets its contract: the four fields come first, the counters after them. Assumes nothing.
 use borrow.Author.Needs.{needs}
+use native.Mathlib.Omega.{arith}
 use mathlib.Core.Path.{sym, _∙_}
+use Rattle.samples.specs.Layout.{widths}
 use Rattle.samples.proofs.SampleLaws.{sample-before, sample-after, sample-trace}
 use Rattle.samples.proofs.sample.sample_byte.Statement.{statement}
 use Rattle.samples.proofs.sample.sample_byte.Tie as tie
+
+trace-bytes-requires : tie.Need-trace-bytes-requires
+trace-bytes-requires c κs = search needs
 
 field-byte-requires : tie.Need-field-byte-requires
 field-byte-requires c κs = search needs
 
 returns : tie.Need-returns
 returns c =
-    let a = c .before .before .args in
-    c .field-byte .ensures ∙ sym (sample-before (a .sample) (a .place) (search needs))
+    let f = c .before .before in
+    let a = f .before .args in
+    c .field-byte .ensures ∙ sym (sample-before (widths (a .edition)) (a .sample) (a .place) (omega (arith, f .trace-bytes .ensures)))
 
 is-resource-requires : tie.Need-is-resource-requires
 is-resource-requires c κs = search needs
@@ -21,19 +27,28 @@ counter-byte-requires c κs = search needs
 
 returns-2 : tie.Need-returns-2
 returns-2 c =
-    let a = c .before .before .before .before .before .args in
+    let r = c .before .before .before in
+    let f = r .before .before in
+    let a = f .before .args in
     c .counter-byte .ensures
-    ∙ sym (sample-after (a .sample) (a .place) (search needs) (sym (c .before .before .before .is-resource .ensures) ∙ c .before .before .if2 .taken))
+    ∙ sym
+    (sample-after (widths (a .edition)) (a .sample) (a .place) (f .trace-bytes .result) (f .trace-bytes .ensures) (search needs)
+    (sym (r .is-resource .ensures) ∙ c .before .before .if2 .taken))
 
 returns-3 : tie.Need-returns-3
 returns-3 c =
-    let a = c .before .before .before .args in
-    sym (sample-trace (a .sample) (a .place) (search needs) (sym (c .before .is-resource .ensures) ∙ c .if2 .left))
+    let r = c .before in
+    let f = r .before .before in
+    let a = f .before .args in
+    sym
+    (sample-trace (widths (a .edition)) (a .sample) (a .place) (omega (arith, f .trace-bytes .ensures))
+    (sym (r .is-resource .ensures) ∙ c .if2 .left))
 
 pub sample-byte-spec : {M : Type 1} → statement M
 sample-byte-spec =
     tie.close
     (tie.spec
+    trace-bytes-requires
     field-byte-requires
     returns
     is-resource-requires

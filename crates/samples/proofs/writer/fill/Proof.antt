@@ -10,17 +10,17 @@ use lib.Dec.{eqb}
 use lib.ListN.{length, getD, take, drop, set, length-set}
 use Rattle.words.specs.Word.{wordOf}
 use Rattle.words.proofs.FillLaws.{fill-suc, fill-all}
-use Rattle.samples.specs.Layout.{sampleWords, firstChip}
+use Rattle.samples.specs.Layout.{sampleWords, widths}
 use Rattle.samples.proofs.SampleLaws.{sample-length, sample-word}
 use Rattle.samples.proofs.writer.fill.Statement.{statement}
 use Rattle.samples.proofs.writer.fill.Tie as tie
 
 abbrev Inv-loop : tie.InvT-loop
-Inv-loop sample count out₀ i₀ out i =
-    (i ≤ count) × (length out ≡ length out₀) × (out ≡ take i (sampleWords firstChip sample) ++ drop i out₀)
+Inv-loop edition sample count out₀ i₀ out i =
+    (i ≤ count) × (length out ≡ length out₀) × (out ≡ take i (sampleWords (widths edition) sample) ++ drop i out₀)
 
 abbrev μ-loop : tie.MeasureT-loop
-μ-loop sample count out₀ i₀ out i = count - i
+μ-loop edition sample count out₀ i₀ out i = count - i
 
 loop-holds : tie.Need-loop-holds Inv-loop μ-loop
 loop-holds c = (search needs, refl, refl)
@@ -51,13 +51,13 @@ loop-again c =
     let a = c .before .before .before .before .before .args in
     let l = c .before .before .before .loop in
     let i = l .i in
-    let words = sampleWords firstChip (a .sample) in
+    let words = sampleWords (widths (a .edition)) (a .sample) in
     let sixteen : length (a .sample .counters) ≡ 16 = search needs in
-    let long : length words ≡ a .count = sample-length firstChip (a .sample) sixteen ∙ sym (c .before .before .before .before .before .pre .0) in
+    let long : length words ≡ a .count = sample-length (widths (a .edition)) (a .sample) sixteen ∙ sym (c .before .before .before .before .before .pre .0) in
     let size = c .before .before .before .before .before .pre .0 in
     let here : c .word .result ≡ getD words i 0 =
     c .word .ensures ∙ ap₂ wordOf (ap₂ eqb (add-one i) size) (c .before .sample-byte .ensures)
-    ∙ sym (sample-word firstChip (a .sample) sixteen i (omega arith)) in (
+    ∙ sym (sample-word (widths (a .edition)) (a .sample) sixteen i (omega arith)) in (
       search needs,
       length-set (l .out) i (c .word .result) ∙ l .inv .1,
       rw add-one
@@ -71,11 +71,11 @@ returns : tie.Need-returns Inv-loop μ-loop
 returns c =
     let a = c .before .before .before .args in
     let sixteen : length (a .sample .counters) ≡ 16 = search needs in
-    let long : length (sampleWords firstChip (a .sample)) ≡ a .count = sample-length firstChip (a .sample) sixteen ∙ sym (c .before .before .before .pre .0) in
+    let long : length (sampleWords (widths (a .edition)) (a .sample)) ≡ a .count = sample-length (widths (a .edition)) (a .sample) sixteen ∙ sym (c .before .before .before .pre .0) in
     let end : c .before .loop .i ≡ a .count = omega arith in
     c .before .loop .inv .2
-    ∙ ap (λ (k : _). take k (sampleWords firstChip (a .sample)) ++ drop k (a .out .now)) end
-    ∙ fill-all (sampleWords firstChip (a .sample)) (a .out .now) (a .count) long
+    ∙ ap (λ (k : _). take k (sampleWords (widths (a .edition)) (a .sample)) ++ drop k (a .out .now)) end
+    ∙ fill-all (sampleWords (widths (a .edition)) (a .sample)) (a .out .now) (a .count) long
 
 pub fill-spec : {M : Type 1} → statement M
 fill-spec =

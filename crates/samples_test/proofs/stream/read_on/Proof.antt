@@ -5,7 +5,8 @@ use Prim.Native.Nat.{_+_, _≤_, _-_}
 use native.Mathlib.Omega.{arith}
 use mathlib.Core.Path.{_≡_, ap}
 use lib.ListN.{length, take, drop, length-take, length-drop}
-use Rattle.samples.specs.Layout.{firstChip}
+use Rattle.samples.specs.Layout.{widths}
+use Rattle.samples.specs.declared.edition.Edition.the-variants.{First}
 use Rattle.samples.specs.Read.{Found, readPart}
 use Rattle.samples_test.proofs.StreamLaws.{count-within}
 use Rattle.samples_test.proofs.stream.read_on.Statement.{statement}
@@ -41,8 +42,8 @@ within c =
     let words = c .before .before .before .before .before .before .args .words .now in
     let at = c .before .before .before .loop .at in
     let part = take (length words - at) (drop at words) in
-    let same : c .read .result .count ≡ readPart firstChip part .count = ap (λ (f : Found). f .count) (c .read .ensures) in
-    omega (arith, count-within firstChip part, length-take (length words - at) (drop at words), length-drop at words)
+    let same : c .read .result .count ≡ readPart (widths First) part .count = ap (λ (f : Found). f .count) (c .read .ensures) in
+    omega (arith, count-within (widths First) part, length-take (length words - at) (drop at words), length-drop at words)
 
 reading-requires : tie.Need-reading-requires Inv-loop μ-loop
 reading-requires c κs = search needs

@@ -2,6 +2,8 @@
 use borrow.Author.Needs.{needs}
 use mathlib.Core.Path.{sym, ap, _∙_}
 use mathlib.Core.Bool.{Bool, cond}
+use Rattle.samples.specs.Layout.{widths}
+use Rattle.samples.specs.declared.edition.Edition.the-variants.{First}
 use Rattle.queue.specs.Queue.{advanced, nextWord}
 use Rattle.queue.specs.declared.queue.Sent.{Sent}
 use Rattle.queue.proofs.SendLaws.{send-next}
@@ -25,7 +27,7 @@ unfolding send
 returns c =
     let s = c .before .before .before .before .before .args .self in
     c .replied .ensures
-    ∙ ap (λ (b : Bool). cond b (replied NoWord s) (done (nextWord (s .bank .shadows) (s .queue)) (withQueue (advanced (s .queue)) s))) (sym (sym (c .before .before .none-held .ensures) ∙ c .before .if2 .taken))
+    ∙ ap (λ (b : Bool). cond b (replied NoWord s) (done (nextWord (widths First) (s .bank .shadows) (s .queue)) (withQueue (advanced (widths First) (s .queue)) s))) (sym (sym (c .before .before .none-held .ensures) ∙ c .before .if2 .taken))
     ∙ guard-in s _ (sym (c .before .before .before .before .inside .ensures) ∙ c .before .before .before .if1 .taken)
 
 send-requires : tie.Need-send-requires
@@ -43,8 +45,8 @@ returns-2 c =
     let s = c .before .before .before .before .before .before .before .before .before .args .self in
     let some = sym (c .before .before .before .before .before .before .none-held .ensures) ∙ c .before .before .before .before .before .if2 .left in
     c .done .ensures
-    ∙ ap (λ (r : Sent). done (r .word) (withQueue (r .queue) s)) (c .before .before .before .send .ensures ∙ send-next (s .bank .shadows) (s .queue) some)
-    ∙ ap (λ (b : Bool). cond b (replied NoWord s) (done (nextWord (s .bank .shadows) (s .queue)) (withQueue (advanced (s .queue)) s))) (sym some)
+    ∙ ap (λ (r : Sent). done (r .word) (withQueue (r .queue) s)) (c .before .before .before .send .ensures ∙ send-next (widths First) (s .bank .shadows) (s .queue) some)
+    ∙ ap (λ (b : Bool). cond b (replied NoWord s) (done (nextWord (widths First) (s .bank .shadows) (s .queue)) (withQueue (advanced (widths First) (s .queue)) s))) (sym some)
     ∙ guard-in s _ (sym (c .before .before .before .before .before .before .before .before .inside .ensures) ∙ c .before .before .before .before .before .before .before .if1 .taken)
 
 replied-requires-2 : tie.Need-replied-requires-2

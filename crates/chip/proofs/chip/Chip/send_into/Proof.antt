@@ -2,6 +2,8 @@
 use borrow.Author.Needs.{needs}
 use mathlib.Core.Path.{sym, ap, _∙_}
 use mathlib.Core.Bool.{Bool, cond}
+use Rattle.samples.specs.Layout.{widths}
+use Rattle.samples.specs.declared.edition.Edition.the-variants.{First}
 use Rattle.queue.specs.Queue.{sendBuffer}
 use Rattle.queue.specs.declared.queue.SentMany.{SentMany}
 use Rattle.chip.specs.Chip.{done, sendInto, sentBuffer, withQueue}
@@ -28,7 +30,7 @@ returns c =
     let s = a .self in
     let yes = sym (c .before .before .before .before .before .before .before .before .inside .ensures) ∙ c .before .before .before .before .before .before .before .if1 .taken in (
       c .done .ensures ∙ ap (λ (r : SentMany). done (r .count) (withQueue (r .queue) s)) (c .before .before .before .before .send-into .ensures .0) ∙ guard-in s _ yes,
-      c .before .before .before .before .send-into .ensures .1 ∙ ap (λ (b : Bool). cond b (sendBuffer (s .bank .shadows) (s .queue) (a .out .now)) (a .out .now)) (sym yes),
+      c .before .before .before .before .send-into .ensures .1 ∙ ap (λ (b : Bool). cond b (sendBuffer (widths First) (s .bank .shadows) (s .queue) (a .out .now)) (a .out .now)) (sym yes),
     )
 
 replied-requires : tie.Need-replied-requires
@@ -41,7 +43,7 @@ returns-2 c =
     let s = a .self in
     let out = sym (c .before .before .inside .ensures) ∙ c .before .if1 .left in (
       c .replied .ensures ∙ guard-out s _ out,
-      ap (λ (b : Bool). cond b (sendBuffer (s .bank .shadows) (s .queue) (a .out .now)) (a .out .now)) (sym out),
+      ap (λ (b : Bool). cond b (sendBuffer (widths First) (s .bank .shadows) (s .queue) (a .out .now)) (a .out .now)) (sym out),
     )
 
 pub send-into-spec : {M : Type 1} → statement M

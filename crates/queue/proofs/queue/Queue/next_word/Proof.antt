@@ -7,7 +7,7 @@ use mathlib.Core.Path.{_≡_, sym, ap₂, _∙_}
 use lib.Dec.{eqb}
 use lib.ListN.{length, List·getD-eq-default}
 use Rattle.words.specs.Word.{wordOf}
-use Rattle.samples.specs.Layout.{firstChip, sampleWords}
+use Rattle.samples.specs.Layout.{sampleWords, widths}
 use Rattle.samples.proofs.SampleLaws.{sample-length, sample-word}
 use Rattle.queue.specs.Queue.{firstHeld, heldSample}
 use Rattle.queue.proofs.QueueLaws.{held-sixteen}
@@ -37,15 +37,15 @@ returns c =
     let size = c .before .before .before .word-count .ensures in
     c .word .ensures
     ∙ ap₂ wordOf (ap₂ eqb (add-one (a .t1 .sent)) size) (c .before .held-byte .ensures)
-    ∙ sym (sample-word firstChip (heldSample (a .shadows) h) (held-sixteen (a .shadows) h sixteen) (a .t1 .sent) (omega arith))
+    ∙ sym (sample-word (widths (a .edition)) (heldSample (a .shadows) h) (held-sixteen (a .shadows) h sixteen) (a .t1 .sent) (omega arith))
 
 returns-2 : tie.Need-returns-2
 returns-2 c =
     let a = c .before .before .before .args in
     let h = firstHeld (a .t1) in
     let sixteen : length (a .shadows) ≡ 16 = search needs in
-    let long = sample-length firstChip (heldSample (a .shadows) h) (held-sixteen (a .shadows) h sixteen) in
-    sym (List·getD-eq-default (sampleWords firstChip (heldSample (a .shadows) h)) 0 {n = a .t1 .sent} (rw long (omega arith)))
+    let long = sample-length (widths (a .edition)) (heldSample (a .shadows) h) (held-sixteen (a .shadows) h sixteen) in
+    sym (List·getD-eq-default (sampleWords (widths (a .edition)) (heldSample (a .shadows) h)) 0 {n = a .t1 .sent} (rw long (omega arith)))
 
 pub next-word-spec : {M : Type 1} → statement M
 next-word-spec =

@@ -2,6 +2,7 @@
 use borrow.Author.Needs.{needs}
 use borrow.Author.Tests.{eq-eqb, ne-eqb}
 use mathlib.Core.Path.{sym, _∙_}
+use Rattle.samples.specs.Layout.{widths}
 use Rattle.queue.proofs.SendLaws.{send-next}
 use Rattle.queue.proofs.queue.Queue.send.Statement.{statement}
 use Rattle.queue.proofs.queue.Queue.send.Tie as tie
@@ -19,7 +20,7 @@ returns-2 : tie.Need-returns-2
 returns-2 c =
     let a = c .before .before .before .before .args in
     (λ i. record { queue = c .advanced .ensures i; word = c .before .next-word .ensures i })
-    ∙ sym (send-next (a .shadows) (a .self) (ne-eqb (a .self .held) 0 (c .before .before .if1 .left)))
+    ∙ sym (send-next (widths (a .edition)) (a .shadows) (a .self) (ne-eqb (a .self .held) 0 (c .before .before .if1 .left)))
 
 pub send-spec : {M : Type 1} → statement M
 send-spec = tie.close (tie.spec returns next-word-requires advanced-requires returns-2)

@@ -6,16 +6,17 @@ use native.Mathlib.Numerals.{add-one}
 use mathlib.Core.Path.{_≡_, refl, ap}
 use native.Mathlib.Omega.{arith}
 use lib.ListN.{length}
+use Rattle.samples.specs.Layout.{widths}
 use Rattle.queue.specs.Queue.{sendQueue, sendWords}
 use Rattle.queue.proofs.SendLaws.{Filled, filled-turn, filled-end, send-none}
 use Rattle.queue.proofs.queue.Queue.send_into.Statement.{statement}
 use Rattle.queue.proofs.queue.Queue.send_into.Tie as tie
 
 abbrev Inv-loop : tie.InvT-loop
-Inv-loop shadows out₀ queue₀ i₀ out queue i = Filled shadows queue₀ out₀ out queue i
+Inv-loop edition shadows out₀ queue₀ i₀ out queue i = Filled (widths edition) shadows queue₀ out₀ out queue i
 
 abbrev μ-loop : tie.MeasureT-loop
-μ-loop shadows out₀ queue₀ i₀ out queue i = length out₀ - i
+μ-loop edition shadows out₀ queue₀ i₀ out queue i = length out₀ - i
 
 loop-holds : tie.Need-loop-holds Inv-loop μ-loop
 unfolding sendWords sendQueue
@@ -28,7 +29,7 @@ returns : tie.Need-returns Inv-loop μ-loop
 returns c =
     let a = c .before .before .before .before .before .args in
     let l = c .before .before .before .loop in
-    filled-end (a .shadows) (a .self) (a .out .now) (l .out) (l .queue) (l .i) (l .inv) (send-none (length (a .out .now) - l .i) (a .shadows) (l .queue) (c .if1 .taken))
+    filled-end (widths (a .edition)) (a .shadows) (a .self) (a .out .now) (l .out) (l .queue) (l .i) (l .inv) (send-none (widths (a .edition)) (length (a .out .now) - l .i) (a .shadows) (l .queue) (c .if1 .taken))
 
 next-word-requires : tie.Need-next-word-requires Inv-loop μ-loop
 next-word-requires c κs = search needs
@@ -53,7 +54,7 @@ loop-again c =
     let a = c .before .before .before .before .before .before .before .args in
     let l = c .before .before .before .before .before .loop in
     rw add-one
-    (filled-turn (a .shadows) (a .self) (a .out .now) (l .out) (l .queue) (l .i) (l .inv) (c .before .next-word .result) (c .advanced .result) (omega arith) (c .before .before .if1 .left) (c .before .next-word .ensures) (c .advanced .ensures))
+    (filled-turn (widths (a .edition)) (a .shadows) (a .self) (a .out .now) (l .out) (l .queue) (l .i) (l .inv) (c .before .next-word .result) (c .advanced .result) (omega arith) (c .before .before .if1 .left) (c .before .next-word .ensures) (c .advanced .ensures))
 
 same-length-2 : tie.Need-same-length-2 Inv-loop μ-loop
 same-length-2 c = search needs
@@ -64,8 +65,8 @@ returns-2 c =
     let a = c .before .before .before .args in
     let l = c .before .loop in
     let none : length (a .out .now) - l .i ≡ 0 = omega arith in
-    filled-end (a .shadows) (a .self) (a .out .now) (l .out) (l .queue) (l .i) (l .inv)
-    (ap (λ (n : ℕ). sendWords n (a .shadows) (l .queue)) none, ap (λ (n : ℕ). sendQueue n (l .queue)) none)
+    filled-end (widths (a .edition)) (a .shadows) (a .self) (a .out .now) (l .out) (l .queue) (l .i) (l .inv)
+    (ap (λ (n : ℕ). sendWords (widths (a .edition)) n (a .shadows) (l .queue)) none, ap (λ (n : ℕ). sendQueue (widths (a .edition)) n (l .queue)) none)
 
 pub send-into-spec : {M : Type 1} → statement M
 send-into-spec =
