@@ -221,7 +221,7 @@ VERSIONS = {
     'counters_15_to_0': (
         "a Resource sample's counters are sent and read last first", in_samples({
             'src/sample.rt': [('counters[i] as u64', 'counters[15 - i] as u64')],
-            'src/reader.rt': [('16 + 4 * i', '76 - 4 * i'), ('specs.Read.{', 'specs.Read.{countersIn, '), READ_LAST_FIRST],
+            'src/reader.rt': [('start + 4 * i', 'start + (60 - 4 * i)'), ('specs.Read.{', 'specs.Read.{countersIn, '), READ_LAST_FIRST],
             'specs/Layout.antt': [('List.{', 'List.{reverse, '), ('spread counterWidths counters', 'spread counterWidths (reverse counters)')],
             'specs/Read.antt': [('List.{', 'List.{reverse, '), READ_LAST_FIRST, ('-- the sample that', 'abbrev pub countersIn : List ℕ → List ℕ\ncountersIn bs = reverse (gather counterWidths bs)\n\n-- the sample that')],
             'proofs/Gather.antt': [
@@ -236,12 +236,13 @@ VERSIONS = {
                 USES, ('unfolding writable sampleOf gather', 'unfolding writable sampleOf gather within'), ('(resource h) cs', '(resource h) (reverse cs)', 4),
                 ('within-gather counterWidths', 'within-reverse counterWidths [] cs [] (within-gather counterWidths'), ('(map-below ws))) in', '(map-below ws)))) in')],
             'proofs/PlaceLaws.antt': [
-                USES, ('(s .counters) (p - 16) (zero-lt-suc 3) sixteen', '(reverse (s .counters)) (p - 16) (zero-lt-suc 3) (length-reverse (s .counters) ∙ sixteen)'),
+                USES, ('(s .counters) (p - start) (zero-lt-suc 3) sixteen', '(reverse (s .counters)) (p - start) (zero-lt-suc 3) (length-reverse (s .counters) ∙ sixteen)'),
                 ('(getD (s .counters) m 0) n) whole part', '(getD (reverse (s .counters)) m 0) n) whole part ∙ ap (λ (x : ℕ). byteAt x k) (reverse-at (s .counters) (15 - i) i (omega arith))')],
-            'proofs/reader/decode/Proof.antt': [USES, (*READ_LAST_FIRST, 2)],
+            'proofs/reader/decode/Proof.antt': [USES, READ_LAST_FIRST],
             'proofs/reader/counters_of/Proof.antt': [
-                USES, (*READ_LAST_FIRST, 3), ('add-number-at', 'sub-number-at', 4), ('loop-again c =', 'unfolding gather\nloop-again c ='), ('returns c =', 'unfolding gather\nreturns c ='), ('16 + 4 * c', '76 - 4 * c'),
-                ('16 + 4 * i ≡ 16 + i * 4', '76 - 4 * i ≡ 16 + (15 - i) * 4'), ('(i * 4)', '((15 - i) * 4)'), ('(gather-at 4 16 i', '(reverse-at (gather counterWidths (drop 16 bytes)) (15 - i) i (omega arith) ∙ gather-at 4 16 (15 - i)')],
+                USES, (*READ_LAST_FIRST, 3), ('add-number-at : ', 'sub-number-at : tie.Need-sub-number-at Inv-loop μ-loop\nsub-number-at c = search needs\n\nadd-number-at : '), ('    add-number-at\n', '    sub-number-at\n    add-number-at\n'),
+                ('loop-again c =', 'unfolding gather\nloop-again c ='), ('returns c =', 'unfolding gather\nreturns c ='), ('.start + 4 * c .before .before .loop .i', '.start + (60 - 4 * c .before .before .loop .i)'),
+                ('start + 4 * i ≡ start + i * 4', 'start + (60 - 4 * i) ≡ start + (15 - i) * 4'), ('(i * 4)', '((15 - i) * 4)'), ('(gather-at 4 16 i', '(reverse-at (gather counterWidths (drop start bytes)) (15 - i) i (omega arith) ∙ gather-at 4 16 (15 - i)')],
             'proofs/sample/counter_byte/Proof.antt': [
                 USES, ('_%_,', '_-_, _/_, _%_,'), ('mul-byte-at : ', 'sub-byte-at : tie.Need-sub-byte-at\nsub-byte-at c = search needs\n\nmul-byte-at : '), ('(tie.spec ', '(tie.spec sub-byte-at '),
                 ('(a .t1) (a .place) (zero-lt-suc 3) (search needs)', '(reverse (a .t1)) (a .place) (zero-lt-suc 3) (length-reverse (a .t1) ∙ search needs)', 2),
