@@ -1,12 +1,13 @@
 #!/usr/bin/env python3
 """Time bench and twin, both as native code, on a Trace-heavy, a Resource-heavy and a mixed file of records.
 
-    perf/measure.py [RECORDS]
+    perf/measure.py [RECORDS] [NAME=PROGRAM ..]
     perf/measure.py kinds [NAME=PROGRAM ..]
 
-RECORDS is the size of each file, 100,000,000 unless given. The two programs run in turn, five times each, and the
-least time of each counts. Beside the times: the time on half the file, the largest memory, and callgrind's
-instructions for each record where valgrind is there. It needs rt, rustc and, on Arm, gcc.
+RECORDS is the size of each file, 100,000,000 unless given. The programs run in turn, five times each, and the least
+time of each counts; those that are named (earlier builds of bench) run with bench and twin, so that before and after
+are of one run. Beside the times: bench's time on half the file and its largest memory, and callgrind's instructions
+for each record where valgrind is there. It needs rt, rustc and, on Arm, gcc.
 
 kinds prints a table, as docs/PERFORMANCE.md has it: callgrind's instructions a record for each kind of operation by
 itself, of bench and twin, or of the programs that are named (earlier builds of bench) and the twin. It is repeatable.
@@ -194,36 +195,46 @@ def build_twin(path):
     return path
 
 
-def time_files(bench, twin, records, folder):
-    """Times, memory and instructions on the three files."""
+def time_files(programs, records, folder):
+    """Times, memory and instructions on the three files; the first program is bench, the last the twin."""
+    bench = programs[0][1]
     for name, rounds in (("Trace", trace), ("Resource", resource_samples), ("Mixed", mixed)):
         path, half, small = f"{folder}/all", f"{folder}/half", f"{folder}/small"
         count = write_file(path, rounds, records)
         write_file(half, rounds, records // 2)
         few = write_file(small, rounds, 1_000_000)
-        times = [(seconds(bench, path), seconds(twin, path)) for _ in range(RUNS)]
-        ours, theirs = (min(column) for column in zip(*times))
-        print(f"{name}: {count} records, bench {ours:.2f} s, twin {theirs:.2f} s, ratio {ours / theirs:.2f}")
+        turns = [[seconds(program, path) for _, program in programs] for _ in range(RUNS)]
+        times = [min(column) for column in zip(*turns)]
+        print(f"{name}: {count} records, {beside(programs, times, 's', 2)}", flush=True)
         halved = min(seconds(bench, half) for _ in range(RUNS))
         print(f"{name}: half of them, bench {halved:.2f} s; memory {memory(bench, half)} KiB for half, {memory(bench, path)} KiB for all")
-        counts = [instructions(program, small, folder) for program in (bench, twin)]
+        counts = [instructions(program, small, folder) for _, program in programs]
         if all(counts):
-            each = [number / few for number in counts]
-            print(f"{name}: instructions a record, bench {each[0]:.0f}, twin {each[1]:.0f}, ratio {each[0] / each[1]:.2f}")
+            print(f"{name}: a record, {beside(programs, [number / few for number in counts], 'instructions', 0)}", flush=True)
+
+
+def beside(programs, figures, unit, places):
+    """Each program's figure, and its ratio to the twin's, which is the last."""
+    said = [f"{name} {figure:.{places}f} {unit} ({figure / figures[-1]:.2f})" for (name, _), figure in zip(programs, figures)]
+    return ", ".join(said)
 
 
 def main():
     print(f"machine: {processor()}")
     with tempfile.TemporaryDirectory() as folder:
-        twin = build_twin(f"{folder}/twin")
-        if sys.argv[1:2] == ["kinds"]:
-            named = [tuple(word.split("=", 1)) for word in sys.argv[2:]]
-            named = [(name, os.path.abspath(program)) for name, program in named] or [("bench", build_bench(f"{folder}/bench"))]
-            print_kinds(named + [("twin", twin)], folder)
+        twin = ("twin", build_twin(f"{folder}/twin"))
+        words = sys.argv[1:]
+        only_kinds = words[:1] == ["kinds"]
+        named = [tuple(word.split("=", 1)) for word in words if "=" in word]
+        named = [(name, os.path.abspath(program)) for name, program in named]
+        if only_kinds and named:
+            print_kinds(named + [twin], folder)
             return
-        bench = build_bench(f"{folder}/bench")
-        time_files(bench, twin, int(sys.argv[1]) if len(sys.argv) > 1 else 100_000_000, folder)
-        print_kinds([("bench", bench), ("twin", twin)], folder)
+        programs = [("bench", build_bench(f"{folder}/bench"))] + named + [twin]
+        if not only_kinds:
+            records = next((int(word) for word in words if word.isdigit()), 100_000_000)
+            time_files(programs, records, folder)
+        print_kinds(programs, folder)
 
 
 main()
