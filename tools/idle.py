@@ -218,6 +218,15 @@ VERSIONS = {
             ('crates/counters/proofs/BitLaws.antt', 'mask-due Software′ s i h p q =', 'mask-due Software s i h p q ='),
             ('crates/counters/proofs/switches/Switches/fires/Proof.antt', '(bit (a .self .high) (a .index) && not (bit (a .self .low) (a .index)))', '(not (bit (a .self .high) (a .index)) && bit (a .self .low) (a .index))'),
         ], [], [('counters', 'selects-field')]),
+    'nine_held_inside': (
+        'a record with nine samples held is inside the bounds of 15', [
+            ('crates/queue/src/queue.rt', 'if 8 < self.held {', 'if 9 < self.held {'),
+            ('crates/queue/specs/Queue.antt', 'insideQueue w q = leb (q .held) 8', 'insideQueue w q = leb (q .held) 9'),
+            ('crates/queue/proofs/BoundLaws.antt', 'pub few : q .held ≤ 8', 'pub few : q .held ≤ 9'),
+            ('crates/queue/proofs/BoundLaws.antt', 'leb (q .held) 8', 'leb (q .held) 9', 3),
+            ('crates/queue/proofs/BoundLaws.antt', 'leb-true (q .held) 8', 'leb-true (q .held) 9', 2),
+            ('crates/queue/proofs/queue/Queue/inside/Proof.antt', '.held) 8', '.held) 9', 3),
+        ], ['queue'], [('chip', 'inside-bounded')]),
     'counters_15_to_0': (
         "a Resource sample's counters are sent and read last first", in_samples({
             'src/sample.rt': [('counters[i] as u64', 'counters[15 - i] as u64')],

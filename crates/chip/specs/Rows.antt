@@ -1,6 +1,7 @@
 -- Document 01, "Reply numbers": for each row of the table, whether an operation on a record is that row's case. The rows are "tried in
 -- the order 15, 1, 2, 3, 4, then for a trigger 6, 7, 8 or 10".
-use Prim.Native.Nat.{ℕ, zero, suc, _/_, _%_, _^_}
+use Prim.Native.Nat.{ℕ, zero, suc, _/_, _%_, _^_, _≤_, _<_}
+use mathlib.Core.Path.{_≡_}
 use mathlib.Core.Bool.{Bool, true, false, not, _&&_, _||_}
 use mathlib.Core.List.{List}
 use lib.Dec.{leb, ltb, eqb}
@@ -97,6 +98,21 @@ resourceHeld c = someResource (c .queue .held) (c .queue .places)
 -- "A trigger lacks room if 8 are held, or if it is a Resource trigger and a Resource sample is held": from 112 on it is one
 abbrev pub lacking : Chip → ℕ → Bool
 lacking c a = leb 8 (c .queue .held) || (leb 112 a && resourceHeld c)
+
+-- ---- the bounds of 15, by "Reply numbers"
+
+abbrev pub firstHeader : Chip → ℕ
+firstHeader c = getD (c .queue .places) 0 zeroHeld .header
+
+-- "as few as the operations need (queue counts, places, phase, field widths)": by number, as docs/BOUNDS.md lists them. The first sample has
+-- 80 words where its header's low four bits are 8 or more, else 16
+pub record Bounded (c : Chip) : Type 0 where
+  pub held : c .queue .held ≤ 8
+  pub none : c .queue .held ≡ 0 → c .queue .sent ≡ 0
+  pub trace : 0 < c .queue .held → firstHeader c % 16 < 8 → c .queue .sent < 16
+  pub resource : 0 < c .queue .held → 8 ≤ firstHeader c % 16 → c .queue .sent < 80
+  pub phase : c .switches .phase < 10
+  pub stamp : c .stamp < 2 ^ 56
 
 -- ---- the rows
 
