@@ -1,24 +1,45 @@
-// Runs the writer and the reader on document 01's cases and prints what they give, one line a case.
+// Runs the writer and the reader on document 01's cases, for both editions of the chip, and prints what they give, one line a case.
 mod given;
+mod places;
 mod reading;
 mod show;
 mod stream;
 mod writing;
 
+use samples::edition::Edition;
+
 fn main() {
-    writing::marked_example();
-    writing::accepted();
-    writing::unfit_fields();
-    writing::unfit_counters();
-    writing::short();
-    writing::unfit_and_short();
-    reading::whole();
-    reading::unfinished();
-    reading::too_large();
-    reading::parity();
-    reading::header();
-    reading::mark();
-    reading::two_faults();
-    reading::first_fault();
-    stream::several();
+    cases(Edition::First);
+    cases(Edition::Second);
+    edges(Edition::First, Edition::Second);
+    edges(Edition::Second, Edition::First);
+}
+
+// Each answer of the writer and of the reader.
+fn cases(edition: Edition) {
+    writing::marked_example(edition);
+    writing::accepted(edition);
+    writing::unfit(edition);
+    writing::short(edition);
+    writing::unfit_and_short(edition);
+    reading::whole(edition);
+    reading::unfinished(edition);
+    reading::too_large(edition);
+    reading::parity(edition);
+    reading::header(edition);
+    reading::mark(edition);
+    reading::two_faults(edition);
+    reading::first_fault(edition);
+    stream::several(edition);
+}
+
+// Where a field ends and the next begins, and where one edition's sample ends and the other's doesn't.
+fn edges(edition: Edition, other: Edition) {
+    writing::alone(edition);
+    writing::resource_refused(edition);
+    reading::borders(edition);
+    reading::other_edition(edition, other);
+    places::counts(edition);
+    places::bytes(edition, b"Trace places", 19, false);
+    places::bytes(edition, b"Resource places", 27, true);
 }

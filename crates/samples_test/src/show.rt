@@ -1,6 +1,7 @@
 // Lines for a person to read, with document 01's numbers for the answers.
 use libc::STDOUT_FILENO;
 use printing::print;
+use samples::edition::Edition;
 use samples::reader::Reading;
 use samples::reader::verdict_number;
 use samples::sample::Sample;
@@ -8,6 +9,8 @@ use samples::writer::Written;
 use samples::writer::written_count;
 use samples::writer::written_number;
 use words::word::byte;
+ghost use Prim.Native.Nat.{_≤_};
+ghost use lib.ListN.{length};
 
 fn wide(x: u32) -> u64 {
     x as u64
@@ -33,36 +36,76 @@ fn fields(sample: Sample) {
     counters(cs);
 }
 
-fn answer(name: &[u8], answer: u64, count: usize) {
+// Begins a line: what is done, in which edition, and the case's name or its first part.
+pub fn case(done: &[u8], edition: Edition, name: &[u8]) {
+    print::text(done);
+    match edition {
+        Edition::First => {}
+        Edition::Second => print::text(b"II "),
+    }
     print::text(name);
+}
+
+// How many words of a sample are read, as the end of a name.
+pub fn words(count: usize) {
+    if count == 0 {
+        print::text(b", no word");
+        return;
+    }
+    if count == 1 {
+        print::text(b", 1 word");
+        return;
+    }
+    print::field(b", ", count as u64);
+    print::text(b" words");
+}
+
+// The room in a buffer of 100 places, where it isn't all of them, as the end of a name.
+pub fn room(room: usize) {
+    if room == 0 {
+        print::text(b", no room");
+        return;
+    }
+    if room < 100 {
+        print::field(b", room ", room as u64);
+    }
+}
+
+fn answer(answer: u64, count: usize) {
     print::field(b": answer ", answer);
     print::field(b" count ", count as u64);
 }
 
-// What the writer answered, and the whole buffer after it.
-pub fn written(name: &[u8], written: Written, buffer: &[u16]) {
-    print::text(b"write ");
-    answer(name, written_number(written), written_count(written));
+// What the writer answered, and the whole buffer after it, as the rest of a line.
+pub fn written(written: Written, buffer: &[u16]) {
+    answer(written_number(written), written_count(written));
     print::text(b", buffer");
     print::words(buffer);
     print::text(b"\n");
 }
 
 // What the reader answered, its sample with it.
-pub fn reading(name: &[u8], found: Reading) {
+pub fn reading(edition: Edition, name: &[u8], found: Reading) {
+    case(b"read ", edition, name);
+    rest(found);
+}
+
+// The same as the rest of a line.
+pub fn rest(found: Reading) {
     let verdict = found.verdict;
     let sample = found.sample;
-    print::text(b"read ");
-    answer(name, verdict_number(verdict), found.count);
+    answer(verdict_number(verdict), found.count);
     print::text(b", ");
     fields(sample);
     print::text(b"\n");
 }
 
-// The data bytes of words, in hexadecimal as document 01 writes them.
-pub fn bytes(name: &[u8], ws: &[u16]) {
-    print::text(name);
-    data(ws);
+// The data bytes of the first words, in hexadecimal as document 01 writes them.
+pub fn bytes(edition: Edition, name: &[u8], ws: &[u16], count: usize)
+    requires { ⌜ count ≤ length (now ws) ⌝ }
+{
+    case(b"", edition, name);
+    data(&ws[0..count]);
     print::text(b"\n");
 }
 
@@ -74,14 +117,14 @@ fn data(ws: &[u16]) {
     }
 }
 
-fn hex(byte: u8) {
+pub fn hex(byte: u8) {
     print::text(b" ");
     io::print_hex(STDOUT_FILENO, byte as u64, 2);
 }
 
 // How far a stream is read.
-pub fn taken(name: &[u8], count: usize) {
-    print::text(name);
+pub fn taken(edition: Edition, name: &[u8], count: usize) {
+    case(b"", edition, name);
     print::field(b": words taken ", count as u64);
     print::text(b"\n");
 }

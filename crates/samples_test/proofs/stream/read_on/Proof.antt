@@ -6,17 +6,16 @@ use native.Mathlib.Omega.{arith}
 use mathlib.Core.Path.{_≡_, ap}
 use lib.ListN.{length, take, drop, length-take, length-drop}
 use Rattle.samples.specs.Layout.{widths}
-use Rattle.samples.specs.declared.edition.Edition.the-variants.{First}
 use Rattle.samples.specs.Read.{Found, readPart}
 use Rattle.samples_test.proofs.StreamLaws.{count-within}
 use Rattle.samples_test.proofs.stream.read_on.Statement.{statement}
 use Rattle.samples_test.proofs.stream.read_on.Tie as tie
 
 abbrev Inv-loop : tie.InvT-loop
-Inv-loop name words at₀ at = at ≤ length words
+Inv-loop edition name words at₀ at = at ≤ length words
 
 abbrev μ-loop : tie.MeasureT-loop
-μ-loop name words at₀ at = length words - at
+μ-loop edition name words at₀ at = length words - at
 
 loop-holds : tie.Need-loop-holds Inv-loop μ-loop
 loop-holds c = search needs
@@ -41,9 +40,10 @@ within : (c : tie.After-read Inv-loop μ-loop) → c .before .before .before .lo
 within c =
     let words = c .before .before .before .before .before .before .args .words .now in
     let at = c .before .before .before .loop .at in
+    let w = widths (c .before .before .before .before .before .before .args .edition) in
     let part = take (length words - at) (drop at words) in
-    let same : c .read .result .count ≡ readPart (widths First) part .count = ap (λ (f : Found). f .count) (c .read .ensures) in
-    omega (arith, count-within (widths First) part, length-take (length words - at) (drop at words), length-drop at words)
+    let same : c .read .result .count ≡ readPart w part .count = ap (λ (f : Found). f .count) (c .read .ensures) in
+    omega (arith, count-within w part, length-take (length words - at) (drop at words), length-drop at words)
 
 reading-requires : tie.Need-reading-requires Inv-loop μ-loop
 reading-requires c κs = search needs
