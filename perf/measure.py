@@ -7,9 +7,9 @@
 RECORDS is the size of each file, 100,000,000 unless given. The programs run in turn, five times each, and the least
 time of each counts; those that are named (earlier builds of bench) run with bench and twin, so that before and after
 are of one run. Beside the times: bench's time on half the file and its largest memory, and callgrind's instructions
-for each record where valgrind is there. It needs rt, rustc and, on Arm, gcc.
+for each record where valgrind is there; then the table of kinds. It needs rt, rustc and, on Arm, gcc.
 
-kinds prints a table, as docs/PERFORMANCE.md has it: callgrind's instructions a record for each kind of operation by
+kinds prints a table alone, as docs/PERFORMANCE.md has it: callgrind's instructions a record for each kind of operation by
 itself, of bench and twin, or of the programs that are named (earlier builds of bench) and the twin. It is repeatable.
 """
 
@@ -209,7 +209,9 @@ def time_files(programs, records, folder):
         halved = min(seconds(bench, half) for _ in range(RUNS))
         print(f"{name}: half of them, bench {halved:.2f} s; memory {memory(bench, half)} KiB for half, {memory(bench, path)} KiB for all")
         counts = [instructions(program, small, folder) for _, program in programs]
-        if all(counts):
+        if None in counts:
+            print(f"{name}: no instructions counted of {[one for (one, _), number in zip(programs, counts) if number is None]}")
+        else:
             print(f"{name}: a record, {beside(programs, [number / few for number in counts], 'instructions', 0)}", flush=True)
 
 
@@ -227,13 +229,15 @@ def main():
         only_kinds = words[:1] == ["kinds"]
         named = [tuple(word.split("=", 1)) for word in words if "=" in word]
         named = [(name, os.path.abspath(program)) for name, program in named]
+        sizes = [word for word in words[only_kinds:] if "=" not in word]
+        if len(sizes) > (not only_kinds) or not all(size.isdigit() for size in sizes):
+            sys.exit(__doc__)
         if only_kinds and named:
             print_kinds(named + [twin], folder)
             return
         programs = [("bench", build_bench(f"{folder}/bench"))] + named + [twin]
         if not only_kinds:
-            records = next((int(word) for word in words if word.isdigit()), 100_000_000)
-            time_files(programs, records, folder)
+            time_files(programs, int(sizes[0]) if sizes else 100_000_000, folder)
         print_kinds(programs, folder)
 
 

@@ -17,7 +17,7 @@ use Rattle.queue.specs.declared.queue.Held.{Held}
 use Rattle.queue.specs.declared.queue.Queue.{Queue}
 use Rattle.queue.proofs.BoundLaws.{bounds, bounds-back}
 use Rattle.chip.specs.Chip.{inside, lacksRoom}
-use Rattle.chip.specs.Rows.{Bounded, firstHeader, lacking, resourceHeld, someResource}
+use Rattle.chip.specs.Rows.{WithinBounds, firstHeader, lacking, resourceHeld, someResource}
 use Rattle.chip.specs.declared.chip.Chip.{Chip}
 use Rattle.chip.proofs.ChipLaws.{inside-by, inside-phase, inside-queue, inside-stamp}
 
@@ -52,7 +52,7 @@ pub rows-room : (c : Chip) (a : ℕ) → lacksRoom (leb 112 a) (c .queue) ≡ la
 rows-room c a = ap (λ (b : Bool). leb 8 (c .queue .held) || (leb 112 a && b)) (rows-busy c)
 
 -- a record is inside the bounds exactly where they hold by number
-pub inside-bounded : (c : Chip) → inside c ≡ true ↔ Bounded c
+pub inside-bounded : (c : Chip) → inside c ≡ true ↔ WithinBounds c
 inside-bounded c = (to, back)
   where
     q : Queue
@@ -61,7 +61,7 @@ inside-bounded c = (to, back)
     size : (r : Bool) → leb 8 (firstHeader c % 16) ≡ r → firstCount (widths First) q ≡ sampleLength (widths First) r
     size r e = ap (sampleLength (widths First)) (resource-number (firstHeader c) ∙ e)
 
-    to : inside c ≡ true → Bounded c
+    to : inside c ≡ true → WithinBounds c
     to h =
         let b = bounds (widths First) q (inside-queue c h) in
         record {
@@ -73,11 +73,11 @@ inside-bounded c = (to, back)
           stamp = inside-stamp c h;
         }
 
-    left : Bounded c → (q .held ≡ 0 → ⊥) → (r : Bool) → leb 8 (firstHeader c % 16) ≡ r → q .sent < firstCount (widths First) q
+    left : WithinBounds c → (q .held ≡ 0 → ⊥) → (r : Bool) → leb 8 (firstHeader c % 16) ≡ r → q .sent < firstCount (widths First) q
     left b some true e = omega (arith, size true e, b .resource (omega arith) (leb-true 8 (firstHeader c % 16) e))
     left b some false e = omega (arith, size false e, b .trace (omega arith) (leb-false 8 (firstHeader c % 16) e))
 
-    back : Bounded c → inside c ≡ true
+    back : WithinBounds c → inside c ≡ true
     back b =
         inside-by c
         (bounds-back (widths First) q (record { few = b .held; none = b .none; some = λ some. left b some (leb 8 (firstHeader c % 16)) refl }))

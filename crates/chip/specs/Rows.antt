@@ -106,7 +106,7 @@ firstHeader c = getD (c .queue .places) 0 zeroHeld .header
 
 -- "as few as the operations need (queue counts, places, phase, field widths)": by number, as docs/BOUNDS.md lists them. The first sample has
 -- 80 words where its header's low four bits are 8 or more, else 16
-pub record Bounded (c : Chip) : Type 0 where
+pub record WithinBounds (c : Chip) : Type 0 where
   pub held : c .queue .held ≤ 8
   pub none : c .queue .held ≡ 0 → c .queue .sent ≡ 0
   pub trace : 0 < c .queue .held → firstHeader c % 16 < 8 → c .queue .sent < 16

@@ -143,7 +143,7 @@ pub fn header_of(line: u8, resource: bool, lost: bool) -> u32
 }
 
 // A flag as a number.
-pub fn one(flag: bool) -> u32
+fn one(flag: bool) -> u32
     ensures { λ r. ⌜ r ≡ one flag ⌝ }
     ensures { λ r. ⌜ r ≤ 1 ⌝ }
 {

@@ -1,7 +1,8 @@
-// Runs the writer and the reader on document 01's cases, for both editions of the chip, and prints what they give, one line a case.
+// Runs the writer, the reader and the queue on document 01's cases, for both editions of the chip, and prints what they give, one line a case.
 mod given;
 mod places;
 mod reading;
+mod sending;
 mod show;
 mod stream;
 mod writing;
@@ -13,6 +14,8 @@ fn main() {
     cases(Edition::Second);
     edges(Edition::First, Edition::Second);
     edges(Edition::Second, Edition::First);
+    sending::sent(Edition::First);
+    sending::sent(Edition::Second);
 }
 
 // Each answer of the writer and of the reader.
