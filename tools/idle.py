@@ -218,6 +218,22 @@ VERSIONS = {
             ('crates/counters/proofs/BitLaws.antt', 'mask-due Software′ s i h p q =', 'mask-due Software s i h p q ='),
             ('crates/counters/proofs/switches/Switches/fires/Proof.antt', '(bit (a .self .high) (a .index) && not (bit (a .self .low) (a .index)))', '(not (bit (a .self .high) (a .index)) && bit (a .self .low) (a .index))'),
         ], [], [('counters', 'selects-field')]),
+    'every_send_answered_5': (
+        'at most 8 are held, so every single send is answered with 5', [
+            ('crates/chip/src/chip.rt', '    held == 0\n', '    held <= 8\n'),
+            ('crates/chip/specs/Chip.antt', 'use lib.Dec.{ltb, eqb}', 'use lib.Dec.{leb, ltb, eqb}'),
+            ('crates/chip/specs/Chip.antt', 'noneHeld held = eqb held 0', 'noneHeld held = leb held 8'),
+        ], [], [('chip', 'all-rows')]),
+    'every_value_0': (
+        'the value of every reply 0 is 0, so every word sent and every count of a buffer send is', [
+            ('crates/chip/src/chip.rt', '            value,\n', '            value: value % 1,\n'),
+            ('crates/chip/specs/Chip.antt', 'done value c = toldRow (rowOf Done value) c', 'done value c = toldRow (rowOf Done (value % 1)) c'),
+        ], [], [('chip', 'given-sends')]),
+    'reset_only_clears_counters': (
+        'a write at 0 clears the counters of its set bits and nothing else', [
+            ('crates/chip/src/place.rt', '0 => Place::Reset,', '0 => Place::Clear,'),
+            ('crates/chip/specs/Place.antt', 'cond (eqb a 0) Reset', 'cond (eqb a 0) Clear'),
+        ], [], [('chip', 'soft-reset')]),
     'nine_held_inside': (
         'a record with nine samples held is inside the bounds of 15', [
             ('crates/queue/src/queue.rt', 'if 8 < self.held {', 'if 9 < self.held {'),
