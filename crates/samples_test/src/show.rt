@@ -9,8 +9,6 @@ use samples::writer::Written;
 use samples::writer::written_count;
 use samples::writer::written_number;
 use words::word::byte;
-ghost use Prim.Native.Nat.{_≤_};
-ghost use lib.ListN.{length};
 
 fn wide(x: u32) -> u64 {
     x as u64
@@ -100,12 +98,10 @@ pub fn rest(found: Reading) {
     print::text(b"\n");
 }
 
-// The data bytes of the first words, in hexadecimal as document 01 writes them.
-pub fn bytes(edition: Edition, name: &[u8], ws: &[u16], count: usize)
-    requires { ⌜ count ≤ length (now ws) ⌝ }
-{
+// The data bytes of words, in hexadecimal as document 01 writes them.
+pub fn bytes(edition: Edition, name: &[u8], ws: &[u16]) {
     case(b"", edition, name);
-    data(&ws[0..count]);
+    data(ws);
     print::text(b"\n");
 }
 

@@ -112,12 +112,18 @@ fn there_and_back(edition: Edition, name: &[u8], sample: Sample) {
 pub fn marked_example(edition: Edition) {
     let mut buffer = [given::MARK; 100];
     write(edition, given::listing_b(), &mut buffer);
-    show::bytes(
+    first_bytes(
         edition,
         b"M11 bytes",
         &buffer,
         given::length(edition, false),
     );
+}
+
+fn first_bytes(edition: Edition, name: &[u8], words: &[u16], count: usize)
+    requires { ⌜ count ≤ length (now words) ⌝ }
+{
+    show::bytes(edition, name, &words[0..count]);
 }
 
 pub fn accepted(edition: Edition) {
