@@ -2,4 +2,5 @@
 pub mod ByteLaws
 pub mod FillLaws
 pub mod ReplaceLaws
+pub mod TableLaws
 pub mod WordLaws
