@@ -127,7 +127,8 @@ fn put_bytes(table: &[u8], edition: Edition, sample: Sample, out: &mut [u16])
     ensures { λ _. ⌜ now (out .exit) ≡ sets (now (out .entry)) 0 (map (wordOf false) (sampleBytes (widths edition) sample)) ⌝ }
 {
     put_fields(table, edition, sample, out);
-    if is_resource(sample.header) {
+    let with_counters = is_resource(sample.header);
+    if with_counters {
         let counters = sample.counters;
         put_counters(table, counters, out, trace_bytes(edition));
     }

@@ -3,9 +3,9 @@ ghost use mathlib.Core.Path.{_≡_};
 ghost use Rattle.words.specs.Table.{parityBy, parityTable};
 ghost use Rattle.words.specs.Word.{parityOf};
 
-// 1 where the byte has an even number of ones, else 0: byte and bit together then have an odd number.
+// The bit of each byte, 1 where it has an even number of ones, else 0: byte and bit together then have an odd number.
 const PARITY: [u8; 256] = [
-    1,
+    1, // 0
     0,
     0,
     1,
@@ -21,7 +21,7 @@ const PARITY: [u8; 256] = [
     0,
     0,
     1,
-    0,
+    0, // 16
     1,
     1,
     0,
@@ -37,7 +37,7 @@ const PARITY: [u8; 256] = [
     1,
     1,
     0,
-    0,
+    0, // 32
     1,
     1,
     0,
@@ -53,7 +53,7 @@ const PARITY: [u8; 256] = [
     1,
     1,
     0,
-    1,
+    1, // 48
     0,
     0,
     1,
@@ -69,7 +69,7 @@ const PARITY: [u8; 256] = [
     0,
     0,
     1,
-    0,
+    0, // 64
     1,
     1,
     0,
@@ -85,7 +85,7 @@ const PARITY: [u8; 256] = [
     1,
     1,
     0,
-    1,
+    1, // 80
     0,
     0,
     1,
@@ -101,7 +101,7 @@ const PARITY: [u8; 256] = [
     0,
     0,
     1,
-    1,
+    1, // 96
     0,
     0,
     1,
@@ -117,7 +117,7 @@ const PARITY: [u8; 256] = [
     0,
     0,
     1,
-    0,
+    0, // 112
     1,
     1,
     0,
@@ -133,7 +133,7 @@ const PARITY: [u8; 256] = [
     1,
     1,
     0,
-    0,
+    0, // 128
     1,
     1,
     0,
@@ -149,7 +149,7 @@ const PARITY: [u8; 256] = [
     1,
     1,
     0,
-    1,
+    1, // 144
     0,
     0,
     1,
@@ -165,7 +165,7 @@ const PARITY: [u8; 256] = [
     0,
     0,
     1,
-    1,
+    1, // 160
     0,
     0,
     1,
@@ -181,7 +181,7 @@ const PARITY: [u8; 256] = [
     0,
     0,
     1,
-    0,
+    0, // 176
     1,
     1,
     0,
@@ -197,7 +197,7 @@ const PARITY: [u8; 256] = [
     1,
     1,
     0,
-    1,
+    1, // 192
     0,
     0,
     1,
@@ -213,7 +213,7 @@ const PARITY: [u8; 256] = [
     0,
     0,
     1,
-    0,
+    0, // 208
     1,
     1,
     0,
@@ -229,7 +229,7 @@ const PARITY: [u8; 256] = [
     1,
     1,
     0,
-    0,
+    0, // 224
     1,
     1,
     0,
@@ -245,7 +245,7 @@ const PARITY: [u8; 256] = [
     1,
     1,
     0,
-    1,
+    1, // 240
     0,
     0,
     1,
@@ -260,7 +260,7 @@ const PARITY: [u8; 256] = [
     1,
     0,
     0,
-    1,
+    1, // 255
 ];
 
 // The table by value. The compiler builds it anew at each call, so a loop over words takes it out once and lends it.
