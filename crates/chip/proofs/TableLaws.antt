@@ -17,41 +17,44 @@ use Rattle.chip.specs.Told.{Told}
 use Rattle.chip.specs.declared.chip.Chip.{Chip}
 
 module _ (c : Chip) where
-  -- the answer with a word, where there is one
+  -- the next word, by the definition and by a table, and the answer with a word: where there is
+  -- one, and in any case
+  abbrev next : ℕ
+  next = nextWord (widths First) (c .bank .shadows) (c .queue)
+
+  abbrev nextBy : List ℕ → ℕ
+  nextBy table = nextWordBy table (widths First) (c .bank .shadows) (c .queue)
+
   abbrev sent : ℕ → Told
   sent word = done word (withQueue (advanced (widths First) (c .queue)) c)
 
-  -- what two words' answers have in common the sends have in common
-  alike : {A : Type 0} (f : Told → A) (v w : ℕ) → f (sent v) ≡ f (sent w) → (b n : Bool) → f (cond b (cond n (replied NoWord c) (sent v)) (replied Outside c)) ≡ f (cond b (cond n (replied NoWord c) (sent w)) (replied Outside c))
-  alike f v w e true true = refl
-  alike f v w e true false = e
-  alike f v w e false n = refl
+  abbrev answer : Bool → Bool → ℕ → Told
+  answer in-bounds none word = cond in-bounds (cond none (replied NoWord c) (sent word)) (replied Outside c)
 
-  abbrev word : ℕ
-  word = nextWord (widths First) (c .bank .shadows) (c .queue)
-
-  abbrev wordOf : List ℕ → ℕ
-  wordOf table = nextWordBy table (widths First) (c .bank .shadows) (c .queue)
+  -- what the answers with the two words have in common the sends have in common: neither 15 nor 5 looks at the word
+  alike : {A : Type 0} (f : Told → A) (table : List ℕ) → f (sent (nextBy table)) ≡ f (sent next) → f (sendBy table c) ≡ f (send c)
+  unfolding send sendBy
+  alike f table e = go (inside c) (noneHeld (c .queue .held))
+    where
+      go : (b n : Bool) → f (answer b n (nextBy table)) ≡ f (answer b n next)
+      go true true = refl
+      go true false = e
+      go false n = refl
 
   -- by the table of parity bits
   pub send-by : sendBy parityTable c ≡ send c
-  unfolding send sendBy
-  send-by = alike (λ t. t) (wordOf parityTable) word (ap sent (next-word-by (widths First) (c .bank .shadows) (c .queue))) (inside c) (noneHeld (c .queue .held))
+  send-by = alike (λ t. t) parityTable (ap sent (next-word-by (widths First) (c .bank .shadows) (c .queue)))
 
-  -- by any table: the next chip, the reply's number, the data bits and what stands above bit 8
+  -- by any table: the next chip, the reply's number, the data bits of the value and what stands above its bit 8
   module _ (table : List ℕ) where
     pub send-by-chip : sendBy table c .chip ≡ send c .chip
-    unfolding send sendBy
-    send-by-chip = alike (λ t. t .chip) (wordOf table) word refl (inside c) (noneHeld (c .queue .held))
+    send-by-chip = alike (λ t. t .chip) table refl
 
     pub send-by-number : sendBy table c .number ≡ send c .number
-    unfolding send sendBy
-    send-by-number = alike (λ t. t .number) (wordOf table) word refl (inside c) (noneHeld (c .queue .held))
+    send-by-number = alike (λ t. t .number) table refl
 
     pub send-by-low : sendBy table c .value % 256 ≡ send c .value % 256
-    unfolding send sendBy
-    send-by-low = alike (λ t. t .value % 256) (wordOf table) word (next-word-low (widths First) (c .bank .shadows) (c .queue) table) (inside c) (noneHeld (c .queue .held))
+    send-by-low = alike (λ t. t .value % 256) table (next-word-low (widths First) (c .bank .shadows) (c .queue) table)
 
     pub send-by-top : sendBy table c .value / 512 ≡ send c .value / 512
-    unfolding send sendBy
-    send-by-top = alike (λ t. t .value / 512) (wordOf table) word (next-word-top (widths First) (c .bank .shadows) (c .queue) table) (inside c) (noneHeld (c .queue .held))
+    send-by-top = alike (λ t. t .value / 512) table (next-word-top (widths First) (c .bank .shadows) (c .queue) table)
