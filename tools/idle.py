@@ -80,9 +80,13 @@ VERSIONS = {
         ], [], [('chip', 'one-line')]),
     'first_word_again': (
         'every send gives the first word of the first sample', [
-            ('crates/queue/src/queue.rt', '        let sent = self.sent;\n        if sent < count {\n            return word(', '        let sent = self.sent % 1;\n        if sent < count {\n            return word('),
+            ('crates/queue/src/queue.rt', '        let sent = self.sent;\n        if sent < count {\n            return word_by(', '        let sent = self.sent % 1;\n        if sent < count {\n            return word_by('),
             ('crates/queue/specs/Queue.antt', '(firstHeld q))) (q .sent) 0', '(firstHeld q))) (q .sent % 1) 0'),
             ('crates/queue/specs/Queue.antt', 'use Prim.Native.Nat.{ℕ, zero, suc, _+_, _-_}', 'use Prim.Native.Nat.{ℕ, zero, suc, _+_, _-_, _%_}'),
+            ('crates/queue/specs/Table.antt', '(firstHeld q)))) (q .sent) 0', '(firstHeld q)))) (q .sent % 1) 0'),
+            ('crates/queue/specs/Table.antt', 'use Prim.Native.Nat.{ℕ}', 'use Prim.Native.Nat.{ℕ, _%_}'),
+            ('crates/queue/proofs/TableLaws.antt', 'getD ws (q .sent) 0', 'getD ws (q .sent % 1) 0'),
+            ('crates/queue/proofs/TableLaws.antt', 'first) (q .sent)', 'first) (q .sent % 1)', 2),
             ('crates/queue/proofs/QueueLaws.antt', 'use Prim.Native.Nat.{ℕ, zero, suc, _≤_, _<_, min}', 'use Prim.Native.Nat.{ℕ, zero, suc, _%_, _≤_, _<_, min}\nuse native.Mathlib.Omega.{arith}'),
             ('crates/queue/proofs/QueueLaws.antt', 'sixteen) (q .sent) h) ∙ e)', 'sixteen) (q .sent % 1) (omega arith)) ∙ e)'),
             ('crates/queue/proofs/queue/Queue/next_word/Proof.antt', 'use native.Mathlib.Omega.{arith}', 'use Prim.Native.Nat.{_%_}\nuse native.Mathlib.Omega.{arith}'),
@@ -94,9 +98,11 @@ VERSIONS = {
         "a Resource sample's counters are those of the moment at which its words are sent", [
             ('crates/chip/src/chip.rt', 'let shadows = self.bank.shadows;', 'let shadows = self.bank.values;', 2),
             ('crates/chip/specs/Chip.antt', *SENT, 3),
+            ('crates/chip/specs/Table.antt', *SENT),
             ('crates/chip/specs/Sent.antt', 'heldSample (c .bank .shadows)', 'heldSample (c .bank .values)'),
             ('crates/chip/proofs/Refusals.antt', *SENT),
-            ('crates/chip/proofs/chip/Chip/send/Proof.antt', *SENT, 3),
+            ('crates/chip/proofs/TableLaws.antt', *SENT, 5),
+            ('crates/chip/proofs/chip/Chip/send_by/Proof.antt', *SENT, 3),
             ('crates/chip/proofs/chip/Chip/send_into/Proof.antt', *SENT, 2),
             ('crates/chip/proofs/Sends.antt', *SENT, 33),
             ('crates/chip/proofs/Bounds.antt', *SENT, 2),

@@ -6,13 +6,13 @@ use native.Mathlib.Omega.{arith}
 use mathlib.Core.Path.{_≡_, refl, sym, ap, ap₂, _∙_, subst}
 use mathlib.Core.Bool.{Bool, true, false, _&&_, false≢true}
 use mathlib.Core.List.{List, [], _∷_}
-use lib.Dec.{eqb, ltb}
+use lib.Dec.{eqb, ltb, eqb·zero-suc, eqb·suc-suc}
 use lib.ListN.{length, getD}
 use lib.Seq.{ext-getD}
 use borrow.Author.Tests.{eqb-true, ltb-true}
 use Rattle.words.specs.Table.{oddBy, parityBy, parityTable, tabulate, wordBy, wordsBy}
 use Rattle.words.specs.Word.{byteOf, isLast, markBit, oddOnes, parityOf, wordOf, wordsOf}
-use Rattle.words.proofs.WordLaws.{odd-parity, parity-bit}
+use Rattle.words.proofs.WordLaws.{odd-parity, parity-bit, word-top}
 
 -- a list that f gives, number by number
 pub tabulate-length : (f : ℕ → ℕ) (i n : ℕ) → length (tabulate f i n) ≡ n
@@ -88,3 +88,34 @@ pub words-by : (bs : List ℕ) → ((i : ℕ) → getD bs i 0 < 256) → wordsBy
 unfolding wordsBy wordsOf
 words-by [] h = refl
 words-by (b ∷ bs) h = ap₂ (λ (w : ℕ) (ws : List ℕ). w ∷ ws) (word-by (isLast bs) b (h zero)) (words-by bs (λ i. h (suc i)))
+
+-- by any table: as many words as bytes
+pub words-by-length : (table bs : List ℕ) → length (wordsBy table bs) ≡ length bs
+unfolding wordsBy
+words-by-length table [] = refl
+words-by-length table (b ∷ bs) = ap suc (words-by-length table bs)
+
+-- each word is its byte's, marked where it is the last
+pub words-by-at : (table bs : List ℕ) (i : ℕ) → i < length bs → getD (wordsBy table bs) i 0 ≡ wordBy table (eqb (suc i) (length bs)) (getD bs i 0)
+unfolding wordsBy
+words-by-at table [] i h = absurd (not-suc-le-zero h)
+words-by-at table (b ∷ []) zero h = refl
+words-by-at table (b ∷ d ∷ bs) zero h =
+    ap (λ (e : Bool). wordBy table e b) (sym (eqb·suc-suc 0 (length (d ∷ bs)) ∙ eqb·zero-suc (length bs)))
+words-by-at table (b ∷ bs) (suc i) h =
+    words-by-at table bs i (le-of-suc-le-suc h) ∙ ap (λ (e : Bool). wordBy table e (getD bs i 0)) (sym (eqb·suc-suc (suc i) (length bs)))
+
+-- a table decides bit 8 and nothing else: the data bits, and what stands above bit 8, are the definition's by any table
+pub words-by-low : (table bs : List ℕ) (i : ℕ) → getD (wordsBy table bs) i 0 % 256 ≡ getD (wordsOf bs) i 0 % 256
+unfolding wordsBy wordsOf wordBy wordOf
+words-by-low table [] i = refl
+words-by-low table (b ∷ bs) zero = omega arith
+words-by-low table (b ∷ bs) (suc i) = words-by-low table bs i
+
+pub words-by-top : (table bs : List ℕ) → ((i : ℕ) → getD bs i 0 < 256) → (i : ℕ) → getD (wordsBy table bs) i 0 / 512 ≡ getD (wordsOf bs) i 0 / 512
+unfolding wordsBy wordsOf wordBy
+words-by-top table [] h i = refl
+words-by-top table (b ∷ bs) h zero =
+    let mark : wordOf (isLast bs) b / 512 ≡ markBit (isLast bs) = word-top (isLast bs) b (h zero) in
+    omega (arith, h zero, mod-lt (getD table b 0) (zero-lt-suc 1))
+words-by-top table (b ∷ bs) h (suc i) = words-by-top table bs (λ j. h (suc j)) i
