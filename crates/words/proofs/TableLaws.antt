@@ -68,10 +68,6 @@ odd-table l n t =
     ∙ sym (tabulate-at parityOf 0 256 i few ∙ ap parityOf (zero-add i)))
 
 -- what is looked up in the table
-pub table-length : length parityTable ≡ 256
-unfolding parityTable
-table-length = tabulate-length parityOf 0 256
-
 pub parity-by : (b : ℕ) → b < 256 → parityBy parityTable b ≡ parityOf b
 unfolding parityTable
 parity-by b h =

@@ -18,6 +18,10 @@ size s =
     let sixteen : length (a .sample .counters) ≡ 16 = search needs in
     bytes-length (widths (a .edition)) (a .sample) sixteen ∙ sym (s .pre .1 .0)
 
+-- where the mark goes
+abbrev marked-place : tie.Start → ℕ
+marked-place s = s .args .count - 1
+
 put-bytes-requires : tie.Need-put-bytes-requires
 put-bytes-requires c κs = search needs
 
@@ -35,8 +39,8 @@ add-out c =
     let b = c .before .before .before in
     let s = b .before .before .before .before in
     let a = s .args in
-    let few = put-small (sampleBytes (widths (a .edition)) (a .sample)) (a .out .now) (a .count) (a .count - 1) (bytes-below (widths (a .edition)) (a .sample)) (size s) (omega (arith, s .pre .1 .0)) (s .pre .1 .1) in
-    omega (arith, few, ap (λ (l : List ℕ). getD l (a .count - 1) 0) (b .put-bytes .ensures))
+    let few = put-small (sampleBytes (widths (a .edition)) (a .sample)) (a .out .now) (a .count) (marked-place s) (bytes-below (widths (a .edition)) (a .sample)) (size s) (omega (arith, s .pre .1 .0)) (s .pre .1 .1) in
+    omega (arith, few, ap (λ (l : List ℕ). getD l (marked-place s) 0) (b .put-bytes .ensures))
 
 mul-out-2 : tie.Need-mul-out-2
 mul-out-2 c = search needs
@@ -53,8 +57,8 @@ returns c =
     let b = c .before .before .before in
     let s = b .before .before .before .before in
     let a = s .args in
-    ap (λ (l : List ℕ). set l (a .count - 1) (getD l (a .count - 1) 0 + 512)) (b .put-bytes .ensures)
-    ∙ mark-put (sampleBytes (widths (a .edition)) (a .sample)) (a .out .now) (a .count) (a .count - 1) (size s) (omega (arith, s .pre .1 .0)) (s .pre .1 .1)
+    ap (λ (l : List ℕ). set l (marked-place s) (getD l (marked-place s) 0 + 512)) (b .put-bytes .ensures)
+    ∙ mark-put (sampleBytes (widths (a .edition)) (a .sample)) (a .out .now) (a .count) (marked-place s) (size s) (omega (arith, s .pre .1 .0)) (s .pre .1 .1)
 
 pub fill-spec : {M : Type 1} → statement M
 fill-spec =
