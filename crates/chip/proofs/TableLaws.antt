@@ -58,3 +58,13 @@ module _ (c : Chip) where
 
     pub send-by-top : sendBy table c .value / 512 ≡ send c .value / 512
     send-by-top = alike (λ t. t .value / 512) table (next-word-top (widths First) (c .bank .shadows) (c .queue) table)
+
+    -- and a refusal, 5 or 15, is the same in all
+    pub send-by-refused : (send c .number ≡ 0 → ⊥) → sendBy table c ≡ send c
+    unfolding send sendBy
+    send-by-refused refused = go (inside c) (noneHeld (c .queue .held)) refused
+      where
+        go : (b n : Bool) → (answer b n next .number ≡ 0 → ⊥) → answer b n (nextBy table) ≡ answer b n next
+        go true true h = refl
+        go true false h = absurd (h refl)
+        go false n h = refl
