@@ -17,8 +17,7 @@ use Rattle.chip.specs.Told.{Told}
 use Rattle.chip.specs.declared.chip.Chip.{Chip}
 
 module _ (c : Chip) where
-  -- the next word, by the definition and by a table, and the answer with a word: where there is
-  -- one, and in any case
+  -- the next word by the definition and by a table; the answer with a word where there is one, and in any case
   abbrev next : ℕ
   next = nextWord (widths First) (c .bank .shadows) (c .queue)
 

@@ -165,7 +165,8 @@ impl Chip {
         self.send_by(&table)
     }
 
-    // The same by a lent table of parity bits, for whoever sends one word after another.
+    // The same with the parity bits of a lent table, for whoever sends one word after another: `words::parity::parities` gives it. By
+    // another table bit 8 is that table's.
     pub fn send_by(mut self, table: &[u8]) -> Answer
         ensures { λ r. ⌜ told r ≡ sendBy (now (table .entry)) self ⌝ }
     {

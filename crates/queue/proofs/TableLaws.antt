@@ -1,27 +1,19 @@
--- Laws of sending by a lent table: by the table of parity bits it is sending, and by any other the word differs in bit 8 alone.
--- Assumes, where said, a sample's sixteen counters.
-use Prim.Native.Nat.{ℕ, suc, _/_, _%_, _<_}
-use mathlib.Core.Path.{_≡_, ap, _∙_, subst}
+-- Laws of sending by a lent table: by the table of parity bits it is sending, and by any other the word differs in bit 8 alone. Assumes
+-- nothing.
+use Prim.Native.Nat.{ℕ, _/_, _%_}
+use mathlib.Core.Path.{_≡_, ap}
 use mathlib.Core.Bool.{false, cond}
 use mathlib.Core.List.{List}
 use lib.Dec.{eqb}
-use lib.ListN.{getD, length}
-use Rattle.words.specs.Table.{parityTable, wordBy, wordsBy}
-use Rattle.words.proofs.TableLaws.{words-by, words-by-at, words-by-length, words-by-low, words-by-top}
-use Rattle.samples.specs.Layout.{Widths, resource, sampleBytes, sampleLength, sampleWords}
+use lib.ListN.{getD}
+use Rattle.words.specs.Table.{parityTable}
+use Rattle.words.proofs.TableLaws.{words-by, words-by-low, words-by-top}
+use Rattle.samples.specs.Layout.{Widths, sampleBytes, sampleWords}
 use Rattle.samples.specs.declared.sample.Sample.{Sample}
-use Rattle.samples.proofs.SampleLaws.{bytes-below, bytes-length}
+use Rattle.samples.proofs.SampleLaws.{bytes-below}
 use Rattle.queue.specs.Queue.{advanced, firstHeld, heldSample, nextWord, sendOne}
 use Rattle.queue.specs.Table.{nextWordBy, sendOneBy}
 use Rattle.queue.specs.declared.queue.Queue.{Queue}
-
--- a sample's words by a table: how many, and each
-module _ (table : List ℕ) (w : Widths) (s : Sample) (sixteen : length (s .counters) ≡ 16) where
-  pub sample-by-length : length (wordsBy table (sampleBytes w s)) ≡ sampleLength w (resource (s .header))
-  sample-by-length = words-by-length table (sampleBytes w s) ∙ bytes-length w s sixteen
-
-  pub sample-by-word : (i : ℕ) → i < sampleLength w (resource (s .header)) → getD (wordsBy table (sampleBytes w s)) i 0 ≡ wordBy table (eqb (suc i) (sampleLength w (resource (s .header)))) (getD (sampleBytes w s) i 0)
-  sample-by-word i h = subst (λ (n : ℕ). i < n → getD (wordsBy table (sampleBytes w s)) i 0 ≡ wordBy table (eqb (suc i) n) (getD (sampleBytes w s) i 0)) (bytes-length w s sixteen) (words-by-at table (sampleBytes w s) i) h
 
 -- one word where something is held
 pub send-next-by : (table : List ℕ) (w : Widths) (shadows : List ℕ) (q : Queue) → eqb (q .held) 0 ≡ false → sendOneBy table w shadows q ≡ record { queue = advanced w q; word = nextWordBy table w shadows q }

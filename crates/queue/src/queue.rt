@@ -125,7 +125,7 @@ impl Queue {
         self.send_by(&table, edition, shadows)
     }
 
-    // The same by a lent table of parity bits, for whoever sends one word after another.
+    // The same with the parity bits of a lent table, for whoever sends one word after another.
     pub fn send_by(self, table: &[u8], edition: Edition, shadows: [u32; 16]) -> Sent
         ensures { λ r. ⌜ r ≡ sendOneBy (now (table .entry)) (widths edition) shadows self ⌝ }
     {

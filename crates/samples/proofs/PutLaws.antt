@@ -1,22 +1,18 @@
 -- Laws of putting fields into a buffer, unmarked: the first one and then the others behind it, or the others first. Assumes nothing.
 use Prim.Native.Nat.{ℕ, _+_}
 use native.Mathlib.Nat.{zero-add}
-use mathlib.Core.Path.{_≡_, refl, sym, ap, ap₂, _∙_}
+use mathlib.Core.Path.{_≡_, sym, ap, ap₂, _∙_}
 use mathlib.Core.Bool.{false, cond}
-use mathlib.Core.List.{List, [], _∷_, _++_, map, map-append}
+use mathlib.Core.List.{List, [], _∷_, _++_, map-append}
 use lib.ListN.{length, length-map}
 use lib.Seq.{sets}
 use Rattle.words.specs.Bytes.{lowBytes}
 use Rattle.words.specs.Word.{wordOf}
 use Rattle.words.proofs.ByteLaws.{low-length}
-use Rattle.words.proofs.PutLaws.{sets-append, sets-before}
+use Rattle.words.proofs.PutLaws.{plain, sets-append, sets-before}
 use Rattle.samples.specs.Layout.{Widths, counterBytes, fieldBytes, fieldWidths, resource, sampleBytes, spread, total}
 use Rattle.samples.specs.declared.sample.Sample.{Sample}
 use Rattle.samples.proofs.SampleLaws.{fields-length}
-
--- the words of some bytes, none marked
-abbrev pub plain : List ℕ → List ℕ
-plain = map (wordOf false)
 
 plain-length : (n x : ℕ) → length (plain (lowBytes n x)) ≡ n
 plain-length n x = length-map (lowBytes n x) (wordOf false) ∙ low-length n x
@@ -32,7 +28,7 @@ module _ (l : List ℕ) (p n x : ℕ) (ns xs : List ℕ) where
       ∙ sets-append l (plain (lowBytes n x)) (plain (spread ns xs)) p
       ∙ ap (λ (k : ℕ). sets (sets l p (plain (lowBytes n x))) (p + k) (plain (spread ns xs))) (plain-length n x)
 
-  pub put-last : sets (sets l (p + n) (plain (spread ns xs))) p (plain (lowBytes n x)) ≡ sets l p (plain (spread (n ∷ ns) (x ∷ xs)))
+  put-last : sets (sets l (p + n) (plain (spread ns xs))) p (plain (lowBytes n x)) ≡ sets l p (plain (spread (n ∷ ns) (x ∷ xs)))
   put-last =
       sets-before l (plain (lowBytes n x)) (plain (spread ns xs)) p (p + n) (ap (λ (k : ℕ). p + k) (plain-length n x))
       ∙ ap (sets l p) (sym parted)

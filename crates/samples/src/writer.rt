@@ -43,6 +43,7 @@ pub fn write(edition: Edition, sample: Sample, out: &mut [u16]) -> Written
     ensures { λ r. ⌜ writtenRow r ≡ writeAnswer (widths edition) sample (length (now (out .entry))) ⌝ }
     ensures { λ r. ⌜ now (out .exit) ≡ writeBuffer (widths edition) sample (now (out .entry)) ⌝ }
 {
+    // Taken out first: building it and looking at the sample go on side by side.
     let table = parities();
     if can_write(edition, sample) {
         let count = word_count(edition, sample.header);
@@ -134,8 +135,8 @@ fn put_bytes(table: &[u8], edition: Edition, sample: Sample, out: &mut [u16])
     }
 }
 
-// The words of the four fields that every sample has, unmarked. The last field goes first: by the header's turn the table has come to
-// memory (docs/PERFORMANCE.md).
+// The words of the four fields that every sample has, unmarked. The longest field, the last, goes first: that is quicker where a table just
+// built is looked up (docs/PERFORMANCE.md).
 fn put_fields(table: &[u8], edition: Edition, sample: Sample, out: &mut [u16])
     requires { ⌜ now table ≡ parityTable ⌝ }
     requires { ⌜ total (fieldWidths (widths edition)) ≤ length (now out) ⌝ }

@@ -8,7 +8,7 @@ use Rattle.script.specs.declared.operation.Operation.{Operation}
 use Rattle.script.specs.declared.operation.Operation.the-variants.{Bad, Reset, Write, Read, Ticks, Nodes, Events, Send}
 use Rattle.script.specs.declared.operation.Outcome.{Outcome}
 
--- only a send looks at the table: every other record does what it does
+-- only a send looks at the table: every other record does what `runOf` says
 unfoldable pub runBy : List ℕ → Operation → Chip → Outcome
 runBy table Send c = outcomeOf (sendBy table c)
 runBy table Bad c = runOf Bad c

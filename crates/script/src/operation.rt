@@ -130,7 +130,7 @@ pub fn run(chip: Chip, operation: Operation) -> Outcome
     run_by(&table, chip, operation)
 }
 
-// The same by a lent table of parity bits, for whoever runs one record after another.
+// The same with the parity bits of a lent table, for whoever runs one record after another.
 pub fn run_by(table: &[u8], chip: Chip, operation: Operation) -> Outcome
     ensures { λ r. ⌜ r ≡ runBy (now (table .entry)) operation chip ⌝ }
 {

@@ -4,23 +4,23 @@ use Prim.Native.Nat.{ℕ, zero, suc, _+_, _*_, _/_, _%_, _<_}
 use native.Mathlib.Nat.{add-zero, zero-add, add-suc, suc-add, zero-lt-suc, mod-lt, mod-eq-of-lt, le-of-suc-le-suc, not-suc-le-zero}
 use native.Mathlib.Omega.{arith}
 use mathlib.Core.Path.{_≡_, refl, sym, ap, ap₂, _∙_, subst}
-use mathlib.Core.Bool.{Bool, true, false, _&&_, false≢true}
+use mathlib.Core.Bool.{Bool, true, _&&_}
 use mathlib.Core.List.{List, [], _∷_}
-use lib.Dec.{eqb, ltb, eqb·zero-suc, eqb·suc-suc}
+use lib.Dec.{eqb, ltb}
 use lib.ListN.{length, getD}
 use lib.Seq.{ext-getD}
 use borrow.Author.Tests.{eqb-true, ltb-true}
-use Rattle.words.specs.Table.{oddBy, parityBy, parityTable, tabulate, wordBy, wordsBy}
+use Rattle.words.specs.Table.{oddBy, parityBy, parityTable, tabulate, wordBy, wordsBy, wordsWith}
 use Rattle.words.specs.Word.{byteOf, isLast, markBit, oddOnes, parityOf, wordOf, wordsOf}
-use Rattle.words.proofs.WordLaws.{odd-parity, parity-bit, word-top}
+use Rattle.words.proofs.WordLaws.{both-left, both-right, odd-parity, parity-bit, word-top}
 
 -- a list that f gives, number by number
-pub tabulate-length : (f : ℕ → ℕ) (i n : ℕ) → length (tabulate f i n) ≡ n
+tabulate-length : (f : ℕ → ℕ) (i n : ℕ) → length (tabulate f i n) ≡ n
 unfolding tabulate
 tabulate-length f i zero = refl
 tabulate-length f i (suc n) = ap suc (tabulate-length f (suc i) n)
 
-pub tabulate-at : (f : ℕ → ℕ) (i n k : ℕ) → k < n → getD (tabulate f i n) k 0 ≡ f (i + k)
+tabulate-at : (f : ℕ → ℕ) (i n k : ℕ) → k < n → getD (tabulate f i n) k 0 ≡ f (i + k)
 unfolding tabulate
 tabulate-at f i zero k h = absurd (not-suc-le-zero h)
 tabulate-at f i (suc n) zero h = ap f (sym (add-zero i))
@@ -31,17 +31,13 @@ abbrev pub every : (ℕ → ℕ → Bool) → ℕ → List ℕ → Bool
 every f i [] = true
 every f i (x ∷ xs) = f i x && every f (suc i) xs
 
-both : (a b : Bool) → a && b ≡ true → (a ≡ true) × (b ≡ true)
-both true b e = (refl, e)
-both false b e = (e, absurd (false≢true e))
-
 -- so it passes at any
 from : (f : ℕ → ℕ → Bool) (xs : List ℕ) (i : ℕ) → every f i xs ≡ true → (k : ℕ) → k < length xs → f (i + k) (getD xs k 0) ≡ true
 from f [] i t k h = absurd (not-suc-le-zero h)
-from f (x ∷ xs) i t zero h = rw add-zero (both (f i x) (every f (suc i) xs) t .0)
+from f (x ∷ xs) i t zero h = rw add-zero (both-left (f i x) (every f (suc i) xs) t)
 from f (x ∷ xs) i t (suc k) h =
     ap (λ (m : ℕ). f m (getD xs k 0)) (add-suc i k ∙ sym (suc-add i k))
-    ∙ from f xs (suc i) (both (f i x) (every f (suc i) xs) t .1) k (le-of-suc-le-suc h)
+    ∙ from f xs (suc i) (both-right (f i x) (every f (suc i) xs) t) k (le-of-suc-le-suc h)
 
 -- document 01's rule as a test of one entry: it is a bit, and "bits 0..8 together have an odd number of ones"
 unfoldable pub oddEntry : ℕ → ℕ → Bool
@@ -51,11 +47,11 @@ oddEntry b p = ltb p 2 && oddOnes (b + 256 * p)
 odd-bit : (b p : ℕ) → b < 256 → oddEntry b p ≡ true → p ≡ parityOf b
 unfolding oddEntry
 odd-bit b p h t =
-    let few : p < 2 = ltb-true p 2 (both (ltb p 2) (oddOnes (b + 256 * p)) t .0) in
+    let few : p < 2 = ltb-true p 2 (both-left (ltb p 2) (oddOnes (b + 256 * p)) t) in
     let here : (b + 256 * p) / 256 % 2 ≡ p = omega arith in
     let low : byteOf (b + 256 * p) ≡ b = omega arith in
     sym here
-    ∙ eqb-true _ _ (sym (odd-parity (b + 256 * p)) ∙ both (ltb p 2) (oddOnes (b + 256 * p)) t .1)
+    ∙ eqb-true _ _ (sym (odd-parity (b + 256 * p)) ∙ both-right (ltb p 2) (oddOnes (b + 256 * p)) t)
     ∙ ap parityOf low
 
 -- a list of 256 entries that pass is the table
@@ -81,35 +77,19 @@ pub odd-by : (w : ℕ) → oddBy parityTable w ≡ oddOnes w
 odd-by w = ap (eqb (w / 256 % 2)) (parity-by (byteOf w) (mod-lt w (zero-lt-suc 255))) ∙ sym (odd-parity w)
 
 pub words-by : (bs : List ℕ) → ((i : ℕ) → getD bs i 0 < 256) → wordsBy parityTable bs ≡ wordsOf bs
-unfolding wordsBy wordsOf
+unfolding wordsWith wordsOf
 words-by [] h = refl
 words-by (b ∷ bs) h = ap₂ (λ (w : ℕ) (ws : List ℕ). w ∷ ws) (word-by (isLast bs) b (h zero)) (words-by bs (λ i. h (suc i)))
 
--- by any table: as many words as bytes
-pub words-by-length : (table bs : List ℕ) → length (wordsBy table bs) ≡ length bs
-unfolding wordsBy
-words-by-length table [] = refl
-words-by-length table (b ∷ bs) = ap suc (words-by-length table bs)
-
--- each word is its byte's, marked where it is the last
-pub words-by-at : (table bs : List ℕ) (i : ℕ) → i < length bs → getD (wordsBy table bs) i 0 ≡ wordBy table (eqb (suc i) (length bs)) (getD bs i 0)
-unfolding wordsBy
-words-by-at table [] i h = absurd (not-suc-le-zero h)
-words-by-at table (b ∷ []) zero h = refl
-words-by-at table (b ∷ d ∷ bs) zero h =
-    ap (λ (e : Bool). wordBy table e b) (sym (eqb·suc-suc 0 (length (d ∷ bs)) ∙ eqb·zero-suc (length bs)))
-words-by-at table (b ∷ bs) (suc i) h =
-    words-by-at table bs i (le-of-suc-le-suc h) ∙ ap (λ (e : Bool). wordBy table e (getD bs i 0)) (sym (eqb·suc-suc (suc i) (length bs)))
-
 -- a table decides bit 8 and nothing else: the data bits, and what stands above bit 8, are the definition's by any table
 pub words-by-low : (table bs : List ℕ) (i : ℕ) → getD (wordsBy table bs) i 0 % 256 ≡ getD (wordsOf bs) i 0 % 256
-unfolding wordsBy wordsOf wordBy wordOf
+unfolding wordsWith wordsOf wordBy wordOf
 words-by-low table [] i = refl
 words-by-low table (b ∷ bs) zero = omega arith
 words-by-low table (b ∷ bs) (suc i) = words-by-low table bs i
 
 pub words-by-top : (table bs : List ℕ) → ((i : ℕ) → getD bs i 0 < 256) → (i : ℕ) → getD (wordsBy table bs) i 0 / 512 ≡ getD (wordsOf bs) i 0 / 512
-unfolding wordsBy wordsOf wordBy
+unfolding wordsWith wordsOf wordBy
 words-by-top table [] h i = refl
 words-by-top table (b ∷ bs) h zero =
     let mark : wordOf (isLast bs) b / 512 ≡ markBit (isLast bs) = word-top (isLast bs) b (h zero) in

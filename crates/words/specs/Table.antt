@@ -24,10 +24,13 @@ parityBy table b = getD table b 0 % 2
 unfoldable pub wordBy : List ℕ → Bool → ℕ → ℕ
 wordBy table last b = b + 256 * parityBy table b + 512 * markBit last
 
--- the words of a sample's bytes
-unfoldable pub wordsBy : List ℕ → List ℕ → List ℕ
-wordsBy table [] = []
-wordsBy table (b ∷ bs) = wordBy table (isLast bs) b ∷ wordsBy table bs
+-- f's word for each byte, told whether it is the last; and those of a table, for a sample's bytes
+unfoldable pub wordsWith : (Bool → ℕ → ℕ) → List ℕ → List ℕ
+wordsWith f [] = []
+wordsWith f (b ∷ bs) = f (isLast bs) b ∷ wordsWith f bs
+
+abbrev pub wordsBy : List ℕ → List ℕ → List ℕ
+wordsBy table = wordsWith (wordBy table)
 
 -- bit 8 is the parity bit that a table gives the byte
 abbrev pub oddBy : List ℕ → ℕ → Bool

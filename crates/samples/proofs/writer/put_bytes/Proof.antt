@@ -8,8 +8,9 @@ use mathlib.Core.Bool.{Bool, true, false, cond}
 use mathlib.Core.List.{List, []}
 use lib.ListN.{length}
 use lib.Seq.{sets, length-sets}
+use Rattle.words.proofs.PutLaws.{plain}
 use Rattle.samples.specs.Layout.{counterBytes, fieldBytes, fieldWidths, resource, sampleLength, total, widths}
-use Rattle.samples.proofs.PutLaws.{plain, put-rest}
+use Rattle.samples.proofs.PutLaws.{put-rest}
 use Rattle.samples.proofs.writer.put_bytes.Statement.{statement}
 use Rattle.samples.proofs.writer.put_bytes.Tie as tie
 

@@ -5,12 +5,13 @@ use native.Mathlib.Nat.{add-zero}
 use native.Mathlib.Omega.{arith}
 use native.Mathlib.Numerals.{add-one}
 use mathlib.Core.Path.{_≡_, refl, sym, ap, ap₂, _∙_}
-use mathlib.Core.List.{List, _∷_}
+use mathlib.Core.List.{List}
 use lib.ListN.{length, getD, drop, replicate}
 use lib.Seq.{sets, drop-cons, length-sets}
 use Rattle.words.specs.Bytes.{lowBytes}
+use Rattle.words.proofs.PutLaws.{plain}
 use Rattle.samples.specs.Layout.{counterBytes, spread}
-use Rattle.samples.proofs.PutLaws.{plain, put-first}
+use Rattle.samples.proofs.PutLaws.{put-first}
 use Rattle.samples.proofs.writer.put_counters.Statement.{statement}
 use Rattle.samples.proofs.writer.put_counters.Tie as tie
 

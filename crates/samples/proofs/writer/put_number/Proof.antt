@@ -6,19 +6,20 @@ use native.Mathlib.Nat.{add-zero, sub-zero, mod-lt, zero-lt-suc}
 use native.Mathlib.Omega.{arith}
 use mathlib.Core.Path.{_≡_, refl, sym, ap, ap₂, _∙_}
 use mathlib.Core.Bool.{false}
-use mathlib.Core.List.{List, map}
+use mathlib.Core.List.{List}
 use lib.ListN.{length, set, length-set}
 use lib.Seq.{sets}
 use Rattle.words.specs.Bytes.{lowBytes}
 use Rattle.words.specs.Table.{wordBy}
 use Rattle.words.specs.Word.{wordOf}
+use Rattle.words.proofs.PutLaws.{plain}
 use Rattle.words.proofs.TableLaws.{word-by}
 use Rattle.samples.proofs.writer.put_number.Statement.{statement}
 use Rattle.samples.proofs.writer.put_number.Tie as tie
 
 -- the words of n low bytes of a number, put from a place on
 abbrev put : List ℕ → ℕ → ℕ → ℕ → List ℕ
-put l p n x = sets l p (map (wordOf false) (lowBytes n x))
+put l p n x = sets l p (plain (lowBytes n x))
 
 put-suc : (l : List ℕ) (p n x : ℕ) → put l p (suc n) x ≡ put (set l p (wordOf false (x % 256))) (suc p) n (x / 256)
 unfolding lowBytes

@@ -8,9 +8,9 @@ use lib.Dec.{eqb}
 use lib.ListN.{length, List·getD-eq-default}
 use Rattle.words.specs.Table.{wordBy, wordsBy}
 use Rattle.samples.specs.Layout.{sampleBytes, widths}
+use Rattle.samples.proofs.SampleLaws.{sample-with-length, sample-with-word}
 use Rattle.queue.specs.Queue.{firstHeld, heldSample}
 use Rattle.queue.proofs.QueueLaws.{held-sixteen}
-use Rattle.queue.proofs.TableLaws.{sample-by-length, sample-by-word}
 use Rattle.queue.proofs.queue.Queue.next_word.Statement.{statement}
 use Rattle.queue.proofs.queue.Queue.next_word.Tie as tie
 
@@ -38,7 +38,7 @@ returns c =
     let size = c .before .before .before .word-count .ensures in
     c .word-by .ensures
     ∙ ap₂ (wordBy t) (ap₂ eqb (add-one (a .t1 .sent)) size) (c .before .held-byte .ensures)
-    ∙ sym (sample-by-word t (widths (a .edition)) (heldSample (a .shadows) h) (held-sixteen (a .shadows) h sixteen) (a .t1 .sent) (omega arith))
+    ∙ sym (sample-with-word (widths (a .edition)) (heldSample (a .shadows) h) (held-sixteen (a .shadows) h sixteen) (wordBy t) (a .t1 .sent) (omega arith))
 
 returns-2 : tie.Need-returns-2
 returns-2 c =
@@ -46,7 +46,7 @@ returns-2 c =
     let t = a .table .now in
     let h = firstHeld (a .t1) in
     let sixteen : length (a .shadows) ≡ 16 = search needs in
-    let long = sample-by-length t (widths (a .edition)) (heldSample (a .shadows) h) (held-sixteen (a .shadows) h sixteen) in
+    let long = sample-with-length (widths (a .edition)) (heldSample (a .shadows) h) (held-sixteen (a .shadows) h sixteen) (wordBy t) in
     sym (List·getD-eq-default (wordsBy t (sampleBytes (widths (a .edition)) (heldSample (a .shadows) h))) 0 {n = a .t1 .sent} (rw long (omega arith)))
 
 pub next-word-spec : {M : Type 1} → statement M
