@@ -1,12 +1,12 @@
 #!/usr/bin/env python3
-"""Time the writer, the reader and the queue's buffer send by themselves, in nanoseconds and instructions a word, for one or more trees.
+"""Time the writer, the reader and the queue's sends by themselves, in nanoseconds and instructions a word, for one or more trees.
 
     perf/words.py [NAME=TREE ..]
 
 TREE is a checkout of this repository; without any it is the one that the script stands in, named "now". The program perf/words.rt.txt is
 built over a copy of each tree's code, and the programs run in turn, nine times each, so that before and after are of one run. The least
 time of each counts, less that of a run of a few turns, and callgrind's instructions likewise where valgrind is there: start-up counts in
-neither. The compiler is told to keep each of the three a function of its own, so that the program around them doesn't change the figures.
+neither. The compiler is told to keep each of the four a function of its own, so that the program around them doesn't change the figures.
 The script ends where the programs don't give the same words and the same sum. It needs rt and gcc.
 
 These builds are NOT PROVED and are no verdict of any kind: they are made by the kit's front end and its compiler at -O3 with no proof,
@@ -38,6 +38,7 @@ WORK = (
     ("read, Resource", b"RR", 64 * 80),
     ("buffer send, eight Trace", b"ST", 8 * 16),
     ("buffer send, one Resource and seven Trace", b"SR", 80 + 7 * 16),
+    ("single sends, eight Trace", b"OT", 8 * 16),
 )
 RUNS = 9
 FEW_TURNS = 10
@@ -101,9 +102,9 @@ def build(tree, work):
     machine = platform.machine()
     tools = f"{kit}/on/{machine}/toolchain"
     text, words = module_of(tree, work, kit, tools)
-    text, kept = re.subn(rf'(?m)^(define .*@"{CRATE}::(?:write|read|send)_all".*\)) ', r"\1 noinline ", text)
-    if kept != 3:
-        sys.exit(f"{tree}: {kept} of three functions kept by themselves")
+    text, kept = re.subn(rf'(?m)^(define .*@"{CRATE}::(?:write_all|read_all|send_all|send_each)".*\)) ', r"\1 noinline ", text)
+    if kept != 4:
+        sys.exit(f"{tree}: {kept} of four functions kept by themselves")
     # The kit compiles for x86-64 alone.
     if machine != "x86_64":
         text = re.sub(r"(?m)^target datalayout.*\n", "", text)
