@@ -252,6 +252,7 @@ VERSIONS = {
     'counters_15_to_0': (
         "a Resource sample's counters are sent and read last first", in_samples({
             'src/sample.rt': [('counters[i] as u64', 'counters[15 - i] as u64')],
+            'src/writer.rt': [('counters[i] as u64', 'counters[15 - i] as u64')],
             'src/reader.rt': [('start + 4 * i', 'start + (60 - 4 * i)'), ('specs.Read.{', 'specs.Read.{countersIn, '), READ_LAST_FIRST],
             'specs/Layout.antt': [('List.{', 'List.{reverse, '), ('spread counterWidths counters', 'spread counterWidths (reverse counters)')],
             'specs/Read.antt': [('List.{', 'List.{reverse, '), READ_LAST_FIRST, ('-- the sample that', 'abbrev pub countersIn : List ℕ → List ℕ\ncountersIn bs = reverse (gather counterWidths bs)\n\n-- the sample that')],
@@ -278,6 +279,10 @@ VERSIONS = {
                 USES, ('_%_,', '_-_, _/_, _%_,'), ('mul-byte-at : ', 'sub-byte-at : tie.Need-sub-byte-at\nsub-byte-at c = search needs\n\nmul-byte-at : '), ('(tie.spec ', '(tie.spec sub-byte-at '),
                 ('(a .t1) (a .place) (zero-lt-suc 3) (search needs)', '(reverse (a .t1)) (a .place) (zero-lt-suc 3) (length-reverse (a .t1) ∙ search needs)', 2),
                 ('needs))\n\n', 'needs) ∙ ap (λ (x : ℕ). byteAt x (a .place % 4)) (reverse-at (a .t1) (15 - a .place / 4) (a .place / 4) (search needs)))\n\n'), ('default (a .t1) 0 (search needs)', 'default (reverse (a .t1)) 0 (rw length-reverse (search needs))')],
+            'proofs/writer/put_counters/Proof.antt': [
+                USES, ('(drop i counters)', '(drop i (reverse counters))'), ('mul-put-number : ', 'sub-put-number : tie.Need-sub-put-number Inv-loop μ-loop\nsub-put-number c = search needs\n\nmul-put-number : '), ('    mul-put-number\n', '    sub-put-number\n    mul-put-number\n'),
+                ('let xs = a .t2 in', 'let xs = reverse (a .t2) in'), ('length xs ≡ 16 = ', 'length xs ≡ 16 = length-reverse (a .t2) ∙ '), ('(drop (l .i) (a .t2))', '(drop (l .i) (reverse (a .t2)))'),
+                ('.put-number .ensures in', '.put-number .ensures ∙ ap (λ (x : ℕ). sets (l .out) p (plain (lowBytes 4 x))) (sym (reverse-at (a .t2) (15 - l .i) (l .i) (omega arith))) in')],
         }), [], [('samples', 'in-counter')]),
 }
 
