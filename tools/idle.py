@@ -91,7 +91,7 @@ VERSIONS = {
             ('crates/queue/proofs/QueueLaws.antt', 'sixteen) (q .sent) h) ∙ e)', 'sixteen) (q .sent % 1) (omega arith)) ∙ e)'),
             ('crates/queue/proofs/queue/Queue/next_word/Proof.antt', 'use native.Mathlib.Omega.{arith}', 'use Prim.Native.Nat.{_%_}\nuse native.Mathlib.Omega.{arith}'),
             ('crates/queue/proofs/queue/Queue/next_word/Proof.antt', '(add-one (a .t1 .sent))', '(add-one (a .t1 .sent % 1))'),
-            ('crates/queue/proofs/queue/Queue/next_word/Proof.antt', 'sixteen) (a .t1 .sent) (omega arith))', 'sixteen) (a .t1 .sent % 1) (omega arith))'),
+            ('crates/queue/proofs/queue/Queue/next_word/Proof.antt', '(wordBy t) (a .t1 .sent) (omega arith))', '(wordBy t) (a .t1 .sent % 1) (omega arith))'),
             ('crates/queue/proofs/queue/Queue/next_word/Proof.antt', '{n = a .t1 .sent}', '{n = a .t1 .sent % 1}'),
         ], [], [('queue', 'words-first')]),
     'counters_taken_when_sent': (
