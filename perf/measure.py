@@ -241,4 +241,5 @@ def main():
         print_kinds(programs, folder)
 
 
-main()
+if __name__ == "__main__":
+    main()

@@ -80,23 +80,29 @@ VERSIONS = {
         ], [], [('chip', 'one-line')]),
     'first_word_again': (
         'every send gives the first word of the first sample', [
-            ('crates/queue/src/queue.rt', '        let sent = self.sent;\n        if sent < count {\n            return word(', '        let sent = self.sent % 1;\n        if sent < count {\n            return word('),
+            ('crates/queue/src/queue.rt', '        let sent = self.sent;\n        if sent < count {\n            return word_by(', '        let sent = self.sent % 1;\n        if sent < count {\n            return word_by('),
             ('crates/queue/specs/Queue.antt', '(firstHeld q))) (q .sent) 0', '(firstHeld q))) (q .sent % 1) 0'),
             ('crates/queue/specs/Queue.antt', 'use Prim.Native.Nat.{ℕ, zero, suc, _+_, _-_}', 'use Prim.Native.Nat.{ℕ, zero, suc, _+_, _-_, _%_}'),
+            ('crates/queue/specs/Table.antt', '(firstHeld q)))) (q .sent) 0', '(firstHeld q)))) (q .sent % 1) 0'),
+            ('crates/queue/specs/Table.antt', 'use Prim.Native.Nat.{ℕ}', 'use Prim.Native.Nat.{ℕ, _%_}'),
+            ('crates/queue/proofs/TableLaws.antt', 'getD ws (q .sent) 0', 'getD ws (q .sent % 1) 0'),
+            ('crates/queue/proofs/TableLaws.antt', 'first) (q .sent)', 'first) (q .sent % 1)', 2),
             ('crates/queue/proofs/QueueLaws.antt', 'use Prim.Native.Nat.{ℕ, zero, suc, _≤_, _<_, min}', 'use Prim.Native.Nat.{ℕ, zero, suc, _%_, _≤_, _<_, min}\nuse native.Mathlib.Omega.{arith}'),
             ('crates/queue/proofs/QueueLaws.antt', 'sixteen) (q .sent) h) ∙ e)', 'sixteen) (q .sent % 1) (omega arith)) ∙ e)'),
             ('crates/queue/proofs/queue/Queue/next_word/Proof.antt', 'use native.Mathlib.Omega.{arith}', 'use Prim.Native.Nat.{_%_}\nuse native.Mathlib.Omega.{arith}'),
             ('crates/queue/proofs/queue/Queue/next_word/Proof.antt', '(add-one (a .t1 .sent))', '(add-one (a .t1 .sent % 1))'),
-            ('crates/queue/proofs/queue/Queue/next_word/Proof.antt', 'sixteen) (a .t1 .sent) (omega arith))', 'sixteen) (a .t1 .sent % 1) (omega arith))'),
+            ('crates/queue/proofs/queue/Queue/next_word/Proof.antt', '(wordBy t) (a .t1 .sent) (omega arith))', '(wordBy t) (a .t1 .sent % 1) (omega arith))'),
             ('crates/queue/proofs/queue/Queue/next_word/Proof.antt', '{n = a .t1 .sent}', '{n = a .t1 .sent % 1}'),
         ], [], [('queue', 'words-first')]),
     'counters_taken_when_sent': (
         "a Resource sample's counters are those of the moment at which its words are sent", [
             ('crates/chip/src/chip.rt', 'let shadows = self.bank.shadows;', 'let shadows = self.bank.values;', 2),
             ('crates/chip/specs/Chip.antt', *SENT, 3),
+            ('crates/chip/specs/Table.antt', *SENT),
             ('crates/chip/specs/Sent.antt', 'heldSample (c .bank .shadows)', 'heldSample (c .bank .values)'),
             ('crates/chip/proofs/Refusals.antt', *SENT),
-            ('crates/chip/proofs/chip/Chip/send/Proof.antt', *SENT, 3),
+            ('crates/chip/proofs/TableLaws.antt', *SENT, 5),
+            ('crates/chip/proofs/chip/Chip/send_by/Proof.antt', *SENT, 3),
             ('crates/chip/proofs/chip/Chip/send_into/Proof.antt', *SENT, 2),
             ('crates/chip/proofs/Sends.antt', *SENT, 33),
             ('crates/chip/proofs/Bounds.antt', *SENT, 2),
@@ -246,6 +252,7 @@ VERSIONS = {
     'counters_15_to_0': (
         "a Resource sample's counters are sent and read last first", in_samples({
             'src/sample.rt': [('counters[i] as u64', 'counters[15 - i] as u64')],
+            'src/writer.rt': [('counters[i] as u64', 'counters[15 - i] as u64')],
             'src/reader.rt': [('start + 4 * i', 'start + (60 - 4 * i)'), ('specs.Read.{', 'specs.Read.{countersIn, '), READ_LAST_FIRST],
             'specs/Layout.antt': [('List.{', 'List.{reverse, '), ('spread counterWidths counters', 'spread counterWidths (reverse counters)')],
             'specs/Read.antt': [('List.{', 'List.{reverse, '), READ_LAST_FIRST, ('-- the sample that', 'abbrev pub countersIn : List ℕ → List ℕ\ncountersIn bs = reverse (gather counterWidths bs)\n\n-- the sample that')],
@@ -272,6 +279,10 @@ VERSIONS = {
                 USES, ('_%_,', '_-_, _/_, _%_,'), ('mul-byte-at : ', 'sub-byte-at : tie.Need-sub-byte-at\nsub-byte-at c = search needs\n\nmul-byte-at : '), ('(tie.spec ', '(tie.spec sub-byte-at '),
                 ('(a .t1) (a .place) (zero-lt-suc 3) (search needs)', '(reverse (a .t1)) (a .place) (zero-lt-suc 3) (length-reverse (a .t1) ∙ search needs)', 2),
                 ('needs))\n\n', 'needs) ∙ ap (λ (x : ℕ). byteAt x (a .place % 4)) (reverse-at (a .t1) (15 - a .place / 4) (a .place / 4) (search needs)))\n\n'), ('default (a .t1) 0 (search needs)', 'default (reverse (a .t1)) 0 (rw length-reverse (search needs))')],
+            'proofs/writer/put_counters/Proof.antt': [
+                USES, ('(drop i counters)', '(drop i (reverse counters))'), ('mul-put-number : ', 'sub-put-number : tie.Need-sub-put-number Inv-loop μ-loop\nsub-put-number c = search needs\n\nmul-put-number : '), ('    mul-put-number\n', '    sub-put-number\n    mul-put-number\n'),
+                ('let xs = a .t2 in', 'let xs = reverse (a .t2) in'), ('length xs ≡ 16 = ', 'length xs ≡ 16 = length-reverse (a .t2) ∙ '), ('(drop (l .i) (a .t2))', '(drop (l .i) (reverse (a .t2)))'),
+                ('.put-number .ensures in', '.put-number .ensures ∙ ap (λ (x : ℕ). sets (l .out) p (plain (lowBytes 4 x))) (sym (reverse-at (a .t2) (15 - l .i) (l .i) (omega arith))) in')],
         }), [], [('samples', 'in-counter')]),
 }
 

@@ -4,7 +4,7 @@ use mathlib.Core.Path.{_≡_, sym, ap}
 use mathlib.Core.Bool.{Bool, true, false, cond, _&&_}
 use lib.Dec.{ltb}
 use borrow.Author.Tests.{lt-ltb, ltb-true}
-use Rattle.samples.proofs.Gather.{both-left, both-right}
+use Rattle.words.proofs.WordLaws.{both-left, both-right}
 use Rattle.samples.specs.Layout.{widths}
 use Rattle.samples.specs.declared.edition.Edition.the-variants.{First}
 use Rattle.queue.specs.Queue.{insideQueue}

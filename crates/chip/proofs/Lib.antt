@@ -9,6 +9,7 @@ pub mod Resets
 pub mod RoomLaws
 pub mod Sends
 pub mod Shadows
+pub mod TableLaws
 pub mod Ticks
 pub mod WidthLaws
 pub mod Words

@@ -8,7 +8,7 @@ use lib.Dec.{ltb}
 use lib.ListN.{getD, replicate, set}
 use borrow.Author.Tests.{lt-ltb, ltb-true}
 use Rattle.samples.specs.Write.{within}
-use Rattle.samples.proofs.Gather.{both-left, both-right}
+use Rattle.words.proofs.WordLaws.{both-left, both-right}
 use Rattle.counters.specs.Bank.{each}
 
 module _ (k : ℕ) where

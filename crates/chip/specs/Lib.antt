@@ -6,4 +6,5 @@ pub mod Repeat
 pub mod Rows
 pub mod Sent
 pub mod Shape
+pub mod Table
 pub mod Told

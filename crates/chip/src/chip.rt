@@ -12,12 +12,14 @@ use counters::switches::Switches;
 use queue::queue::Held;
 use queue::queue::Queue;
 use samples::edition::Edition;
+use words::parity::parities;
 ghost use mathlib.Core.Path.{_≡_};
 ghost use mathlib.Core.Bool.{cond};
 ghost use Prim.Native.Nat.{_<_, _^_};
 ghost use lib.ListN.{getD, length, set};
 ghost use Rattle.counters.specs.Bank.{copied};
 ghost use Rattle.chip.specs.Told.{told};
+ghost use Rattle.chip.specs.Table.{sendBy};
 ghost use Rattle.chip.specs.Chip.{afterTicks, blocked, done, externalEvents, fresh, hardReset, inside, nodeTicks, noneHeld, read, readAt, readCounter, replied, sampleNow, send, sendInto, sentBuffer, softReset, takeSample, timestampTicks, trigger, triggerBy, fateOf, withBank, withControl, withSources, withStamp, withSwitches, write, writeAt};
 
 const TWO_32: u64 = 1 << 32;
@@ -156,15 +158,24 @@ impl Chip {
     }
 
     // The next word, if there is one.
-    pub fn send(mut self) -> Answer
+    pub fn send(self) -> Answer
         ensures { λ r. ⌜ told r ≡ send self ⌝ }
+    {
+        let table = parities();
+        self.send_by(&table)
+    }
+
+    // The same with the parity bits of a lent table, for whoever sends one word after another: `words::parity::parities` gives it. By
+    // another table bit 8 is that table's.
+    pub fn send_by(mut self, table: &[u8]) -> Answer
+        ensures { λ r. ⌜ told r ≡ sendBy (now (table .entry)) self ⌝ }
     {
         if self.inside() {
             if none_held(self.queue.held) {
                 return self.replied(Reply::NoWord);
             }
             let shadows = self.bank.shadows;
-            let sent = self.queue.send(Edition::First, shadows);
+            let sent = self.queue.send_by(table, Edition::First, shadows);
             let queue = sent.queue;
             self.queue = queue;
             return self.done(sent.word as u64);

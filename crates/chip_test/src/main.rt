@@ -21,6 +21,7 @@ fn main() {
     sending::as_single_sends();
     sending::resource_and_trace();
     sending::nothing_held();
+    sending::by_a_lent_table();
     outside::every_bound();
     outside::largest();
     outside::last_inside();

@@ -1,15 +1,19 @@
-// Sending into a lent buffer of 100 places, each marked 43690 before.
+// Sending into a lent buffer of 100 places, each marked 43690 before, and by a lent table of parity bits.
 use super::given;
 use super::steps;
+use super::steps::Table;
 use chip::chip::Chip;
 use printing::print;
 
+// A Trace sample: 16 words.
+fn one_held() -> Chip {
+    let chip = steps::set(given::ready(), 16, 5);
+    steps::write(chip, 96, 258, 1)
+}
+
 // Two Trace samples: 32 words.
 fn two_held() -> Chip {
-    let mut chip = given::ready();
-    chip = steps::set(chip, 16, 5);
-    chip = steps::write(chip, 96, 258, 1);
-    steps::write(chip, 96, 259, 1)
+    steps::write(one_held(), 96, 259, 1)
 }
 
 pub fn lengths() {
@@ -58,4 +62,25 @@ pub fn nothing_held() {
     steps::send_into(chip, 0);
     steps::send_into(chip, 100);
     steps::send(chip);
+}
+
+// The plain send's words by the chip's own table; bit 8 clear in each by an empty one, and set in each by one of ones.
+pub fn by_a_lent_table() {
+    print::heading(b"Send by a lent table: a Trace sample held");
+    let chip = one_held();
+    steps::sends(chip, 16);
+    steps::sends_by(chip, Table::Own, 16);
+    steps::sends_by(chip, Table::Empty, 16);
+    let emptied = steps::sends_by(chip, Table::Ones, 16);
+    by_each(chip);
+    print::heading(b"Send by a lent table: nothing held");
+    by_each(emptied);
+    print::heading(b"Send by a lent table: outside, nine samples held");
+    by_each(given::queued(0, 9, 0));
+}
+
+fn by_each(chip: Chip) {
+    steps::send_by(chip, Table::Own);
+    steps::send_by(chip, Table::Empty);
+    steps::send_by(chip, Table::Ones);
 }

@@ -4,8 +4,18 @@ use chip::chip::Answer;
 use chip::chip::Chip;
 use control::reply::number_of;
 use printing::print;
+use words::parity::parities;
 ghost use Prim.Native.Nat.{_≤_};
 ghost use lib.ListN.{length};
+
+// The table of parity bits that a send is lent.
+pub enum Table {
+    // None: the plain send.
+    Unlent,
+    Own,
+    Empty,
+    Ones,
+}
 
 // The mark that a buffer is filled with before it is lent.
 const MARK: u16 = 43690;
@@ -64,8 +74,30 @@ pub fn external_events(chip: Chip, mask: u16) -> Chip {
 }
 
 pub fn send(chip: Chip) -> Chip {
-    print::text(b"send");
-    line(chip, chip.send())
+    send_by(chip, Table::Unlent)
+}
+
+pub fn send_by(chip: Chip, table: Table) -> Chip {
+    name(table);
+    line(chip, answer_by(chip, table))
+}
+
+fn name(table: Table) {
+    match table {
+        Table::Unlent => print::text(b"send"),
+        Table::Own => print::text(b"send by the chip's table"),
+        Table::Empty => print::text(b"send by an empty table"),
+        Table::Ones => print::text(b"send by 256 ones"),
+    }
+}
+
+fn answer_by(chip: Chip, table: Table) -> Answer {
+    match table {
+        Table::Unlent => chip.send(),
+        Table::Own => chip.send_by(&parities()),
+        Table::Empty => chip.send_by(&[0; 0]),
+        Table::Ones => chip.send_by(&[1; 256]),
+    }
 }
 
 // The first `room` places of a buffer of 100 are lent, or all of them; the line has the whole buffer.
@@ -95,19 +127,24 @@ fn send_first(chip: Chip, buffer: &mut [u16], room: usize) -> Answer
 
 // Single sends one after another, and their words; a refused one would show as the word 0.
 pub fn sends(chip: Chip, count: u64) -> Chip {
-    print::field(b"send ", count);
+    sends_by(chip, Table::Unlent, count)
+}
+
+pub fn sends_by(chip: Chip, table: Table, count: u64) -> Chip {
+    name(table);
+    print::field(b" ", count);
     print::text(b" times:");
-    let next = sent(chip, count);
+    let next = sent(chip, table, count);
     print::text(b"\n");
     next
 }
 
-fn sent(chip: Chip, count: u64) -> Chip {
+fn sent(chip: Chip, table: Table, count: u64) -> Chip {
     let mut state = chip;
     let mut run = print::no_run();
     let mut i = 0;
     while i < count {
-        let answer = state.send();
+        let answer = answer_by(state, table);
         let next = answer.chip;
         state = next;
         run = print::add(run, answer.value);

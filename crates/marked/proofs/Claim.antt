@@ -6,7 +6,7 @@ use mathlib.Core.Path.{_≡_, refl}
 use mathlib.Core.Bool.{true}
 use mathlib.Core.List.{List, [], _∷_}
 use lib.ListN.{getD, length}
-use Rattle.samples.proofs.Gather.{both-left, both-right}
+use Rattle.words.proofs.WordLaws.{both-left, both-right}
 use Rattle.marked.specs.Examples.{examples}
 use lib.Count.{onesIn, trailingZeros}
 use Rattle.words.specs.Bytes.{lowBytes, number}

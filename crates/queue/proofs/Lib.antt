@@ -3,3 +3,4 @@ pub mod BoundLaws
 pub mod CountLaws
 pub mod QueueLaws
 pub mod SendLaws
+pub mod TableLaws

@@ -10,15 +10,11 @@ use lib.ListN.{length, drop, getD, set, length-append, length-set}
 use lib.Seq.{drop-cons, set-at, append-snoc}
 use borrow.Author.Tests.{eq-eqb, ne-eqb, eqb-true, eqb-false}
 use Rattle.samples.specs.Layout.{Widths}
-use Rattle.queue.specs.Queue.{advanced, nextWord, sendBuffer, sendMany, sendOne, sendQueue, sendWords}
+use Rattle.queue.specs.Queue.{advanced, nextWord, sendBuffer, sendMany, sendQueue, sendWords}
 use Rattle.queue.specs.declared.queue.Queue.{Queue}
 use Rattle.queue.specs.declared.queue.SentMany.{SentMany}
 
 module _ (w : Widths) where
-  -- one word where something is held
-  pub send-next : (sh : List ℕ) (q : Queue) → eqb (q .held) 0 ≡ false → sendOne w sh q ≡ record { queue = advanced w q; word = nextWord w sh q }
-  send-next sh q e = rw e
-
   -- nothing held, nothing sent
   pub send-none : (n : ℕ) (sh : List ℕ) (q : Queue) → q .held ≡ 0 → (sendWords w n sh q ≡ []) × (sendQueue w n q ≡ q)
   unfolding sendWords sendQueue

@@ -5,12 +5,14 @@ use samples::sample::counter_byte;
 use samples::sample::field_byte;
 use samples::sample::is_resource;
 use samples::sample::word_count;
-use words::word::word;
+use words::parity::parities;
+use words::word::word_by;
 ghost use mathlib.Core.Path.{_≡_};
 ghost use mathlib.Core.Bool.{cond};
 ghost use Prim.Native.Nat.{_-_, _<_, min};
 ghost use lib.ListN.{getD, length, set, take};
-ghost use Rattle.queue.specs.Queue.{advanced, anyResource, busy, emptyQueue, firstCount, full, heldSample, insideQueue, nextWord, pushed, sendBuffer, sendMany, sendOne, shifted, zeroHeld};
+ghost use Rattle.queue.specs.Queue.{advanced, anyResource, busy, emptyQueue, firstCount, full, heldSample, insideQueue, pushed, sendBuffer, sendMany, sendOne, shifted, zeroHeld};
+ghost use Rattle.queue.specs.Table.{nextWordBy, sendOneBy};
 ghost use Rattle.samples.specs.Layout.{resource, sampleBytes, sampleLength, widths};
 
 // A held sample, but for a Resource sample's counters: no padding (24 bytes).
@@ -119,13 +121,21 @@ impl Queue {
     pub fn send(self, edition: Edition, shadows: [u32; 16]) -> Sent
         ensures { λ r. ⌜ r ≡ sendOne (widths edition) shadows self ⌝ }
     {
+        let table = parities();
+        self.send_by(&table, edition, shadows)
+    }
+
+    // The same with the parity bits of a lent table, for whoever sends one word after another.
+    pub fn send_by(self, table: &[u8], edition: Edition, shadows: [u32; 16]) -> Sent
+        ensures { λ r. ⌜ r ≡ sendOneBy (now (table .entry)) (widths edition) shadows self ⌝ }
+    {
         if self.held == 0 {
             return Sent {
                 queue: self,
                 word: 0,
             };
         }
-        let word = self.next_word(edition, shadows);
+        let word = self.next_word(table, edition, shadows);
         let queue = self.advanced(edition);
         Sent { queue, word }
     }
@@ -137,6 +147,7 @@ impl Queue {
         ensures { λ r. ⌜ r ≡ sendMany (widths edition) (length (now (out .entry))) shadows self ⌝ }
         ensures { λ r. ⌜ now (out .exit) ≡ sendBuffer (widths edition) shadows self (now (out .entry)) ⌝ }
     {
+        let table = parities();
         let mut queue = self;
         let mut i = 0;
         while i < out.len() {
@@ -146,7 +157,7 @@ impl Queue {
                     count: i as u64,
                 };
             }
-            out[i] = queue.next_word(edition, shadows);
+            out[i] = queue.next_word(&table, edition, shadows);
             let next = queue.advanced(edition);
             queue = next;
             i += 1;
@@ -157,15 +168,19 @@ impl Queue {
         }
     }
 
-    // The word that is next, 0 past the first sample's end.
-    fn next_word(self, edition: Edition, shadows: [u32; 16]) -> u16
-        ensures { λ r. ⌜ r ≡ nextWord (widths edition) shadows self ⌝ }
+    // The word that is next, by a lent table of parity bits, 0 past the first sample's end.
+    fn next_word(self, table: &[u8], edition: Edition, shadows: [u32; 16]) -> u16
+        ensures { λ r. ⌜ r ≡ nextWordBy (now (table .entry)) (widths edition) shadows self ⌝ }
     {
         let first = self.places[0];
         let count = word_count(edition, first.header);
         let sent = self.sent;
         if sent < count {
-            return word(held_byte(edition, first, shadows, sent), sent + 1 == count);
+            return word_by(
+                table,
+                held_byte(edition, first, shadows, sent),
+                sent + 1 == count,
+            );
         }
         0
     }

@@ -11,6 +11,7 @@ use borrow.Author.Tests.{ltb-true, lt-ltb}
 use lib.Dec.{ltb}
 use Rattle.words.specs.Bytes.{lowBytes, number}
 use Rattle.words.proofs.ByteLaws.{low-length, number-low, low-number}
+use Rattle.words.proofs.WordLaws.{both-left, both-right}
 use Rattle.samples.specs.Layout.{spread, total}
 use Rattle.samples.specs.Read.{gather}
 use Rattle.samples.specs.Write.{within}
@@ -29,15 +30,6 @@ gather-at m (suc k) zero bs h = ap (λ (j : ℕ). number (take m (drop j bs))) (
 gather-at m (suc k) (suc i) bs h =
     gather-at m k i (drop m bs) (le-of-suc-le-suc h)
     ∙ ap (λ (l : List ℕ). number (take m l)) (drop-drop (i * m) m bs ∙ ap (λ (j : ℕ). drop j bs) (add-comm m (i * m) ∙ sym (suc-mul i m)))
-
--- a test that holds of both holds of each
-pub both-left : (a b : Bool) → (a && b) ≡ true → a ≡ true
-both-left true b e = refl
-both-left false b e = e
-
-pub both-right : (a b : Bool) → (a && b) ≡ true → b ≡ true
-both-right true b e = e
-both-right false b e = absurd (false≢true e)
 
 -- numbers within their widths are read back from their bytes, whatever comes after
 pub gather-spread : (ns xs rest : List ℕ) → within ns xs ≡ true → gather ns (spread ns xs ++ rest) ≡ xs

@@ -3,6 +3,7 @@ pub mod EditionLaws
 pub mod Gather
 pub mod Numbers
 pub mod PlaceLaws
+pub mod PutLaws
 pub mod ReadLaws
 pub mod RoundTrip
 pub mod SampleLaws

@@ -12,13 +12,13 @@ use lib.Seq.{drop-at, take-add}
 use borrow.Author.Tests.{eq-eqb, ne-eqb, eqb-true, ltb-true}
 use Rattle.words.specs.Bytes.{number}
 use Rattle.words.specs.Word.{wordOf, wordsOf, tooLarge, oddOnes, marked, byteOf}
-use Rattle.words.proofs.WordLaws.{word-small, word-odd, word-byte, word-marked, word-back}
+use Rattle.words.proofs.WordLaws.{both-left, both-right, word-small, word-odd, word-byte, word-marked, word-back}
 use Rattle.samples.specs.Layout.{Widths, fieldWidths, counterWidths, counterBytes, fieldBytes, sampleBytes, sampleLength, resource, spread, total}
 use Rattle.samples.specs.Write.{within, allZero, writable}
 use Rattle.samples.specs.Read.{faultAt, gather, isGood, sampleOf, scan}
 use Rattle.samples.specs.declared.sample.Sample.{Sample}
 use Rattle.samples.specs.declared.reader.Verdict.the-variants.{Good}
-use Rattle.samples.proofs.Gather.{both-left, both-right, gather-spread, spread-gather}
+use Rattle.samples.proofs.Gather.{gather-spread, spread-gather}
 use Rattle.samples.proofs.ReadLaws.{faultBy, fault-by, drop-below, scan-first, scan-word}
 use Rattle.samples.proofs.SampleLaws.{fields-length}
 

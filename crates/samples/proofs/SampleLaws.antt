@@ -9,8 +9,9 @@ use mathlib.Core.List.{List, [], _∷_}
 use lib.Dec.{eqb}
 use lib.ListN.{getD, length, take, length-append, List·getD-eq-default}
 use Rattle.words.specs.Bytes.{byteAt}
-use Rattle.words.specs.Word.{wordOf, wordsOf}
-use Rattle.words.proofs.WordLaws.{words-length, words-at}
+use Rattle.words.specs.Table.{wordsWith}
+use Rattle.words.specs.Word.{wordOf}
+use Rattle.words.proofs.WordLaws.{with-at, with-length, words-with}
 use Rattle.samples.specs.Layout.{Widths, fieldBytes, fieldWidths, total, counterBytes, counterWidths, sampleBytes, sampleWords, sampleLength, resource, spread}
 use Rattle.samples.specs.declared.sample.Sample.{Sample}
 use Rattle.samples.proofs.Spread.{at-add, at-before, below-append, spread-at, spread-below, spread-length}
@@ -76,11 +77,19 @@ module _ (w : Widths) (s : Sample) (sixteen : length (s .counters) ≡ 16) where
       go true = spread-length counterWidths (s .counters) sixteen
       go false = refl
 
+  -- a word for each of them, whatever it is
+  module _ (f : Bool → ℕ → ℕ) where
+    pub sample-with-length : length (wordsWith f (sampleBytes w s)) ≡ sampleLength w (resource (s .header))
+    sample-with-length = with-length f (sampleBytes w s) ∙ bytes-length
+
+    pub sample-with-word : (i : ℕ) → i < sampleLength w (resource (s .header)) → getD (wordsWith f (sampleBytes w s)) i 0 ≡ f (eqb (suc i) (sampleLength w (resource (s .header)))) (getD (sampleBytes w s) i 0)
+    sample-with-word i h = subst (λ (n : ℕ). i < n → getD (wordsWith f (sampleBytes w s)) i 0 ≡ f (eqb (suc i) n) (getD (sampleBytes w s) i 0)) bytes-length (with-at f (sampleBytes w s) i) h
+
   pub sample-length : length (sampleWords w s) ≡ sampleLength w (resource (s .header))
   unfolding sampleWords
-  sample-length = words-length (sampleBytes w s) ∙ bytes-length
+  sample-length = ap length (words-with (sampleBytes w s)) ∙ sample-with-length wordOf
 
   -- each word is its byte's, marked where it is the last
   pub sample-word : (i : ℕ) → i < sampleLength w (resource (s .header)) → getD (sampleWords w s) i 0 ≡ wordOf (eqb (suc i) (sampleLength w (resource (s .header)))) (getD (sampleBytes w s) i 0)
   unfolding sampleWords
-  sample-word i h = subst (λ (n : ℕ). i < n → getD (wordsOf (sampleBytes w s)) i 0 ≡ wordOf (eqb (suc i) n) (getD (sampleBytes w s) i 0)) bytes-length (words-at (sampleBytes w s) i) h
+  sample-word i h = ap (λ (ws : List ℕ). getD ws i 0) (words-with (sampleBytes w s)) ∙ sample-with-word wordOf i h

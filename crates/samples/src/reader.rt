@@ -6,9 +6,10 @@ use super::edition::user_bytes;
 use super::sample::Sample;
 use super::sample::is_resource;
 use super::sample::word_count;
+use words::parity::parities;
 use words::word::byte;
 use words::word::marked;
-use words::word::odd_ones;
+use words::word::odd_ones_by;
 use words::word::too_large;
 ghost use mathlib.Core.Path.{_≡_};
 ghost use mathlib.Core.Bool.{_&&_};
@@ -17,6 +18,7 @@ ghost use lib.Dec.{eqb, leb};
 ghost use Prim.Native.Nat.{_+_, _<_, _≤_};
 ghost use lib.ListN.{length, take, drop};
 ghost use Rattle.words.specs.Bytes.{number};
+ghost use Rattle.words.specs.Table.{parityTable};
 ghost use Rattle.words.specs.Word.{byteOf};
 ghost use Rattle.samples.specs.Layout.{counterWidths, widths};
 ghost use Rattle.samples.specs.Read.{faultAt, found, gather, isGood, readPart, refusal, sampleOf, scan, verdictNumber, wanted};
@@ -87,9 +89,10 @@ fn scan(part: &[u16], count: usize) -> Verdict
     requires { ⌜ 0 < count ⌝ }
     ensures { λ r. ⌜ r ≡ scan count 0 (now (part .entry)) ⌝ }
 {
+    let table = parities();
     let mut i = 0;
     while i < part.len() {
-        let fault = fault_at(count, i, part[i]);
+        let fault = fault_at(&table, count, i, part[i]);
         if !is_good(fault) {
             return fault;
         }
@@ -101,15 +104,16 @@ fn scan(part: &[u16], count: usize) -> Verdict
     Verdict::Unfinished
 }
 
-// What is wrong with the word at a place of a sample of `count` words.
-fn fault_at(count: usize, place: usize, word: u16) -> Verdict
+// What is wrong with the word at a place of a sample of `count` words, by the table of parity bits.
+fn fault_at(table: &[u8], count: usize, place: usize, word: u16) -> Verdict
+    requires { ⌜ now table ≡ parityTable ⌝ }
     requires { ⌜ place < count ⌝ }
     ensures { λ r. ⌜ r ≡ faultAt count place word ⌝ }
 {
     if too_large(word) {
         return Verdict::TooLarge;
     }
-    if !odd_ones(word) {
+    if !odd_ones_by(table, word) {
         return Verdict::Parity;
     }
     if bad_header(place, word) {

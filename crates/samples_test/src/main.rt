@@ -1,10 +1,12 @@
-// Runs the writer, the reader and the queue on document 01's cases, for both editions of the chip, and prints what they give, one line a case.
+// Runs the writer, the reader and the queue on document 01's cases, for both editions of the chip, and the table of parity bits that they go by,
+// and prints what they give, one line a case.
 mod given;
 mod places;
 mod reading;
 mod sending;
 mod show;
 mod stream;
+mod tables;
 mod writing;
 
 use samples::edition::Edition;
@@ -16,6 +18,8 @@ fn main() {
     edges(Edition::Second, Edition::First);
     sending::sent(Edition::First);
     sending::sent(Edition::Second);
+    tables::parity_table();
+    tables::other_tables();
 }
 
 // Each answer of the writer and of the reader.

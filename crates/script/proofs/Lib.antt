@@ -3,4 +3,5 @@ pub mod BlockLaws
 pub mod KindLaws
 pub mod LineLaws
 pub mod RecordLaws
+pub mod TableLaws
 pub mod Theorems

@@ -1,15 +1,16 @@
--- Laws of numbers in decimal and of text stored in a buffer. Assumes nothing.
+-- Laws of numbers in decimal and of their text in a buffer. Assumes nothing.
 use Prim.Native.Nat.{ℕ, zero, suc, _+_, _-_, _/_, _%_, _^_, _≤_, _<_}
-use native.Mathlib.Nat.{div-one, div-div-eq-div-mul, pow-succ', pow-suc, mod-lt, zero-lt-suc, lt-irrefl, add-comm, add-zero, add-suc, suc-add}
+use native.Mathlib.Nat.{div-one, div-div-eq-div-mul, pow-succ', pow-suc, mod-lt, zero-lt-suc, add-comm, add-suc}
 use native.Mathlib.Numerals.{add-one}
 use native.Mathlib.Omega.{arith}
-use mathlib.Core.Path.{_≡_, refl, sym, ap, ap₂, _∙_, subst}
+use mathlib.Core.Path.{_≡_, refl, sym, ap, ap₂, _∙_}
 use mathlib.Core.Bool.{Bool, true, false, cond}
 use mathlib.Core.List.{List, [], _∷_, _++_}
 use lib.Dec.{ltb, leb}
 use lib.ListN.{length, set, length-append}
-use lib.Seq.{sets, length-sets, set-comm}
+use lib.Seq.{sets, length-sets}
 use borrow.Author.Tests.{leb-true, lt-ltb, le-ltb}
+use Rattle.words.proofs.PutLaws.{set-sets, sets-append}
 use Rattle.io.specs.Digits.{digits, glyph}
 use Rattle.script.specs.Line.{decimal, lineBuffer, lineEnd, answerLine, widthOf}
 
@@ -87,26 +88,12 @@ decimal-3 n l h =
     (digit-front 1 n
     ∙ ap₂ (λ (d : ℕ) (t : List ℕ). d ∷ t) (add-comm 48 (n / 10 % 10)) (digit-front 0 n ∙ ap (λ (d : ℕ). d ∷ []) (last-digit n)))
 
--- a store before a run of stores may come after it
-pub set-sets : (l vs : List ℕ) (i j v : ℕ) → j < i → set (sets l i vs) j v ≡ sets (set l j v) i vs
-set-sets l [] i j v h = refl
-set-sets l (a ∷ vs) i j v h =
-    set-sets (set l i a) vs (suc i) j v (omega arith)
-    ∙ ap (λ (m : List ℕ). sets m (suc i) vs) (set-comm l i j a v (λ q. lt-irrefl j (subst (λ (k : ℕ). j < k) q h)))
-
 -- one digit more in front of those that stand there
 pub digits-turn : (l : List ℕ) (n at left k : ℕ) → set (sets l (at + suc left) (digits 10 k n)) (at + left) (n / 10 ^ k % 10 + 48) ≡ sets l (at + left) (digits 10 (suc k) n)
 digits-turn l n at left k =
     set-sets l (digits 10 k n) (at + suc left) (at + left) (n / 10 ^ k % 10 + 48) (omega arith)
     ∙ ap₂ (λ (i d : ℕ). sets (set l (at + left) d) i (digits 10 k n)) (add-suc at left) (add-comm (n / 10 ^ k % 10) 48)
     ∙ ap (sets l (at + left)) (sym (digit-front k n))
-
--- one text behind another
-pub sets-append : (l a b : List ℕ) (i : ℕ) → sets l i (a ++ b) ≡ sets (sets l i a) (i + length a) b
-sets-append l [] b i = ap (λ (k : ℕ). sets l k b) (sym (add-zero i))
-sets-append l (x ∷ a) b i =
-    sets-append (set l i x) a b (suc i)
-    ∙ ap (λ (k : ℕ). sets (sets (set l i x) (suc i) a) k b) (suc-add i (length a) ∙ sym (add-suc i (length a)))
 
 -- a number, a space, a number and a newline, one behind the other, are the line
 pub decimal-bound : (x : ℕ) → length (decimal x) ≤ 20

@@ -1,8 +1,9 @@
 // A block of records: each one's step on the chip, and its line.
 use super::line::put_line;
 use super::operation::decode;
-use super::operation::run;
+use super::operation::run_by;
 use chip::chip::Chip;
+use words::parity::parities;
 ghost use mathlib.Core.Path.{_≡_};
 ghost use Rattle.script.specs.Run.{blockBuffer, blockOf, recordCount};
 ghost use lib.ListN.{length};
@@ -21,13 +22,14 @@ pub fn run_block(chip: Chip, input: &[u8], out: &mut [u8]) -> Block
     ensures { λ r. ⌜ now (out .exit) ≡ blockBuffer (now (input .entry)) (now (out .entry)) chip ⌝ }
 {
     let count = least(record_count(input.len()), out.len() / 42);
+    let table = parities();
     let mut state = chip;
     let mut at = 0;
     let mut i = 0;
     while i < count {
         let start = 12 * i;
         let end = start + least(12, input.len() - start);
-        let outcome = run(state, decode(&input[start..end]));
+        let outcome = run_by(&table, state, decode(&input[start..end]));
         at = put_line(outcome.number, outcome.value, out, at);
         let next = outcome.chip;
         state = next;

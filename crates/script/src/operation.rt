@@ -2,12 +2,14 @@
 use chip::chip::Answer;
 use chip::chip::Chip;
 use control::reply::number_of;
+use words::parity::parities;
 ghost use mathlib.Core.Path.{_≡_};
 ghost use Prim.Native.Nat.{_+_, _≤_, _<_, _^_};
 ghost use lib.ListN.{drop, length, take};
 ghost use Rattle.words.specs.Bytes.{number};
 ghost use Rattle.chip.specs.Told.{told};
 ghost use Rattle.script.specs.Record.{byKind, fitting, operationOf, outcomeOf, runOf};
+ghost use Rattle.script.specs.Table.{runBy};
 
 const TWO_8: u64 = 1 << 8;
 
@@ -124,6 +126,14 @@ fn wide(byte: u8) -> u64
 pub fn run(chip: Chip, operation: Operation) -> Outcome
     ensures { λ r. ⌜ r ≡ runOf operation chip ⌝ }
 {
+    let table = parities();
+    run_by(&table, chip, operation)
+}
+
+// The same with the parity bits of a lent table, for whoever runs one record after another.
+pub fn run_by(table: &[u8], chip: Chip, operation: Operation) -> Outcome
+    ensures { λ r. ⌜ r ≡ runBy (now (table .entry)) operation chip ⌝ }
+{
     match operation {
         Operation::Bad => Outcome {
             chip,
@@ -136,7 +146,7 @@ pub fn run(chip: Chip, operation: Operation) -> Outcome
         Operation::Ticks(count) => numbered(chip.timestamp_ticks(count)),
         Operation::Nodes(count) => numbered(chip.node_ticks(count)),
         Operation::Events(mask) => numbered(chip.external_events(mask)),
-        Operation::Send => numbered(chip.send()),
+        Operation::Send => numbered(chip.send_by(table)),
     }
 }
 

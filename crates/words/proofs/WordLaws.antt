@@ -4,7 +4,7 @@ use native.Mathlib.Nat.{mod-lt, zero-lt-suc, div-one, div-div-eq-div-mul, pow-su
 use native.Mathlib.Omega.{arith}
 use native.Mathlib.Numerals.{add-one}
 use mathlib.Core.Path.{_≡_, refl, sym, ap, ap₂, _∙_, subst}
-use mathlib.Core.Bool.{Bool, true, false}
+use mathlib.Core.Bool.{Bool, true, false, _&&_, false≢true}
 use mathlib.Core.List.{List, [], _∷_, map}
 use lib.Arith.{lt-one}
 use lib.Pow.{shr-lt, field, mod-mod-pow}
@@ -12,6 +12,7 @@ use lib.Count.{onesIn, ones, ones-step}
 use lib.Dec.{eqb, eqb·zero-suc, eqb·suc-suc}
 use lib.ListN.{length, getD}
 use borrow.Author.Tests.{eq-eqb, ne-eqb, eqb-true, eqb-false, le-ltb, ltb-false}
+use Rattle.words.specs.Table.{wordsWith}
 use Rattle.words.specs.Word.{parityOf, wordOf, wordsOf, oddOnes, tooLarge, marked, markBit, byteOf, isLast}
 
 -- the ones of a number are those among as many digits as it has
@@ -65,6 +66,15 @@ eqb-same a b c d f g = go (eqb a b) refl
     go : (t : Bool) → eqb a b ≡ t → eqb a b ≡ eqb c d
     go true e = e ∙ sym (eq-eqb c d (f (eqb-true a b e)))
     go false e = e ∙ sym (ne-eqb c d (λ q. eqb-false a b e (g q)))
+
+-- a test that holds of both holds of each
+pub both-left : (a b : Bool) → (a && b) ≡ true → a ≡ true
+both-left true b e = refl
+both-left false b e = e
+
+pub both-right : (a b : Bool) → (a && b) ≡ true → b ≡ true
+both-right true b e = e
+both-right false b e = absurd (false≢true e)
 
 -- the nine bits have an odd number of ones exactly where bit 8 is the parity bit of the byte
 pub odd-parity : (w : ℕ) → oddOnes w ≡ eqb (w / 256 % 2) (parityOf (byteOf w))
@@ -138,23 +148,32 @@ word-one v w low odd top =
     whole : v / 256 % 2 ≡ w / 256 % 2 → v ≡ w
     whole e = digits v ∙ (λ i. low i + 256 * e i + 512 * top i) ∙ sym (digits w)
 
--- as many words as bytes
-pub words-length : (bs : List ℕ) → length (wordsOf bs) ≡ length bs
-unfolding wordsOf
-words-length [] = refl
-words-length (b ∷ bs) = ap suc (words-length bs)
-
 last-length : (bs : List ℕ) → isLast bs ≡ eqb 0 (length bs)
 last-length [] = refl
 last-length (b ∷ bs) = sym (eqb·zero-suc (length bs))
 
--- each word is its byte's, marked where it is the last
+-- a word for each byte, whatever it is: as many words as bytes, and each is its byte's, marked where it is the last
+module _ (f : Bool → ℕ → ℕ) where
+  pub with-length : (bs : List ℕ) → length (wordsWith f bs) ≡ length bs
+  unfolding wordsWith
+  with-length [] = refl
+  with-length (b ∷ bs) = ap suc (with-length bs)
+
+  pub with-at : (bs : List ℕ) (i : ℕ) → i < length bs → getD (wordsWith f bs) i 0 ≡ f (eqb (suc i) (length bs)) (getD bs i 0)
+  unfolding wordsWith
+  with-at [] i h = absurd (not-suc-le-zero h)
+  with-at (b ∷ bs) zero h = ap (λ (e : Bool). f e b) (last-length bs ∙ sym (eqb·suc-suc 0 (length bs)))
+  with-at (b ∷ bs) (suc i) h =
+      with-at bs i (le-of-suc-le-suc h) ∙ ap (λ (e : Bool). f e (getD bs i 0)) (sym (eqb·suc-suc (suc i) (length bs)))
+
+-- a sample's words are such
+pub words-with : (bs : List ℕ) → wordsOf bs ≡ wordsWith wordOf bs
+unfolding wordsOf wordsWith
+words-with [] = refl
+words-with (b ∷ bs) = ap (λ (ws : List ℕ). wordOf (isLast bs) b ∷ ws) (words-with bs)
+
 pub words-at : (bs : List ℕ) (i : ℕ) → i < length bs → getD (wordsOf bs) i 0 ≡ wordOf (eqb (suc i) (length bs)) (getD bs i 0)
-unfolding wordsOf
-words-at [] i h = absurd (not-suc-le-zero h)
-words-at (b ∷ bs) zero h = ap (λ (e : Bool). wordOf e b) (last-length bs ∙ sym (eqb·suc-suc 0 (length bs)))
-words-at (b ∷ bs) (suc i) h =
-    words-at bs i (le-of-suc-le-suc h) ∙ ap (λ (e : Bool). wordOf e (getD bs i 0)) (sym (eqb·suc-suc (suc i) (length bs)))
+words-at bs i h = ap (λ (ws : List ℕ). getD ws i 0) (words-with bs) ∙ with-at wordOf bs i h
 
 -- the bytes are had back from their words
 pub words-bytes : (bs : List ℕ) → ((i : ℕ) → getD bs i 0 < 256) → map byteOf (wordsOf bs) ≡ bs

@@ -5,10 +5,10 @@ use Rattle.chip_test.proofs.steps.sent.Statement.{statement}
 use Rattle.chip_test.proofs.steps.sent.Tie as tie
 
 abbrev Inv-loop : tie.InvT-loop
-Inv-loop count state₀ run₀ i₀ state run i = i ≤ count
+Inv-loop table count state₀ run₀ i₀ state run i = i ≤ count
 
 abbrev μ-loop : tie.MeasureT-loop
-μ-loop count state₀ run₀ i₀ state run i = count - i
+μ-loop table count state₀ run₀ i₀ state run i = count - i
 
 no-run-requires : tie.Need-no-run-requires Inv-loop μ-loop
 no-run-requires c κs = search needs
@@ -16,8 +16,8 @@ no-run-requires c κs = search needs
 loop-holds : tie.Need-loop-holds Inv-loop μ-loop
 loop-holds c = search needs
 
-send-requires : tie.Need-send-requires Inv-loop μ-loop
-send-requires c κs = search needs
+answer-by-requires : tie.Need-answer-by-requires Inv-loop μ-loop
+answer-by-requires c κs = search needs
 
 add-requires : tie.Need-add-requires Inv-loop μ-loop
 add-requires c κs = search needs
@@ -45,7 +45,7 @@ sent-spec =
     μ-loop
     no-run-requires
     loop-holds
-    send-requires
+    answer-by-requires
     add-requires
     add-i
     loop-less

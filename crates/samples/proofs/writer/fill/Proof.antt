@@ -1,96 +1,75 @@
--- `samples::writer::fill` meets its contract: after i turns the buffer holds the first i words, and the rest as it was.
--- Assumes nothing.
-use Prim.Native.Nat.{_≤_, _-_}
-use native.Mathlib.Omega.{arith}
-use native.Mathlib.Numerals.{add-one}
+-- `samples::writer::fill` meets its contract: unmarked words, of which the last then gets its mark, are the sample's. Assumes nothing.
 use borrow.Author.Needs.{needs}
-use mathlib.Core.Path.{_≡_, refl, sym, ap, ap₂, _∙_}
-use mathlib.Core.List.{List, _++_}
-use lib.Dec.{eqb}
-use lib.ListN.{length, getD, take, drop, set, length-set}
-use Rattle.words.specs.Word.{wordOf}
-use Rattle.words.proofs.FillLaws.{fill-suc, fill-all}
-use Rattle.samples.specs.Layout.{sampleWords, widths}
-use Rattle.samples.proofs.SampleLaws.{sample-length, sample-word}
+use Prim.Native.Nat.{ℕ, _+_, _-_}
+use native.Mathlib.Omega.{arith}
+use mathlib.Core.Path.{_≡_, sym, ap, _∙_}
+use mathlib.Core.List.{List}
+use lib.ListN.{length, getD, set}
+use Rattle.words.proofs.PutLaws.{mark-put, put-small}
+use Rattle.samples.specs.Layout.{sampleBytes, sampleWords, widths}
+use Rattle.samples.proofs.SampleLaws.{bytes-below, bytes-length}
 use Rattle.samples.proofs.writer.fill.Statement.{statement}
 use Rattle.samples.proofs.writer.fill.Tie as tie
 
-abbrev Inv-loop : tie.InvT-loop
-Inv-loop edition sample count out₀ i₀ out i =
-    (i ≤ count) × (length out ≡ length out₀) × (out ≡ take i (sampleWords (widths edition) sample) ++ drop i out₀)
+-- as many bytes as words wanted
+size : (s : tie.Start) → length (sampleBytes (widths (s .args .edition)) (s .args .sample)) ≡ s .args .count
+size s =
+    let a = s .args in
+    let sixteen : length (a .sample .counters) ≡ 16 = search needs in
+    bytes-length (widths (a .edition)) (a .sample) sixteen ∙ sym (s .pre .1 .0)
 
-abbrev μ-loop : tie.MeasureT-loop
-μ-loop edition sample count out₀ i₀ out i = count - i
+-- where the mark goes
+abbrev marked-place : tie.Start → ℕ
+marked-place s = s .args .count - 1
 
-loop-holds : tie.Need-loop-holds Inv-loop μ-loop
-loop-holds c = (search needs, refl, refl)
+put-bytes-requires : tie.Need-put-bytes-requires
+put-bytes-requires c κs = search needs
 
-sample-byte-requires : tie.Need-sample-byte-requires Inv-loop μ-loop
-sample-byte-requires c κs = search needs
+sub-last : tie.Need-sub-last
+sub-last c = search needs
 
-add-word : tie.Need-add-word Inv-loop μ-loop
-add-word c = search needs
-
-word-requires : tie.Need-word-requires Inv-loop μ-loop
-word-requires c κs = search needs
-
-mul-out : tie.Need-mul-out Inv-loop μ-loop
+mul-out : tie.Need-mul-out
 mul-out c = search needs
 
-slice-write-out : tie.Need-slice-write-out Inv-loop μ-loop
-slice-write-out c = omega arith
+slice-read-out : tie.Need-slice-read-out
+slice-read-out c = search needs
 
-add-i : tie.Need-add-i Inv-loop μ-loop
-add-i c = search needs
+add-out : tie.Need-add-out
+add-out c =
+    let b = c .before .before .before in
+    let s = b .before .before .before .before in
+    let a = s .args in
+    let few = put-small (sampleBytes (widths (a .edition)) (a .sample)) (a .out .now) (a .count) (marked-place s) (bytes-below (widths (a .edition)) (a .sample)) (size s) (omega (arith, s .pre .1 .0)) (s .pre .1 .1) in
+    omega (arith, few, ap (λ (l : List ℕ). getD l (marked-place s) 0) (b .put-bytes .ensures))
 
-loop-less : tie.Need-loop-less Inv-loop μ-loop
-loop-less c = search needs
+mul-out-2 : tie.Need-mul-out-2
+mul-out-2 c = search needs
 
-loop-again : tie.Need-loop-again Inv-loop μ-loop
-loop-again c =
-    let a = c .before .before .before .before .before .args in
-    let l = c .before .before .before .loop in
-    let i = l .i in
-    let words = sampleWords (widths (a .edition)) (a .sample) in
-    let sixteen : length (a .sample .counters) ≡ 16 = search needs in
-    let long : length words ≡ a .count = sample-length (widths (a .edition)) (a .sample) sixteen ∙ sym (c .before .before .before .before .before .pre .0) in
-    let size = c .before .before .before .before .before .pre .0 in
-    let here : c .word .result ≡ getD words i 0 =
-    c .word .ensures ∙ ap₂ wordOf (ap₂ eqb (add-one i) size) (c .before .sample-byte .ensures)
-    ∙ sym (sample-word (widths (a .edition)) (a .sample) sixteen i (omega arith)) in (
-      search needs,
-      length-set (l .out) i (c .word .result) ∙ l .inv .1,
-      rw add-one
-          (ap₂ (λ (o : List _) (v : _). set o i v) (l .inv .2) here ∙ fill-suc words (a .out .now) i (omega arith) (omega arith)),
-    )
+slice-write-out : tie.Need-slice-write-out
+slice-write-out c = search needs
 
-same-length : tie.Need-same-length Inv-loop μ-loop
-same-length c = c .before .loop .inv .1
+same-length : tie.Need-same-length
+same-length c = search needs
 
-returns : tie.Need-returns Inv-loop μ-loop
+returns : tie.Need-returns
+unfolding sampleWords
 returns c =
-    let a = c .before .before .before .args in
-    let sixteen : length (a .sample .counters) ≡ 16 = search needs in
-    let long : length (sampleWords (widths (a .edition)) (a .sample)) ≡ a .count = sample-length (widths (a .edition)) (a .sample) sixteen ∙ sym (c .before .before .before .pre .0) in
-    let end : c .before .loop .i ≡ a .count = omega arith in
-    c .before .loop .inv .2
-    ∙ ap (λ (k : _). take k (sampleWords (widths (a .edition)) (a .sample)) ++ drop k (a .out .now)) end
-    ∙ fill-all (sampleWords (widths (a .edition)) (a .sample)) (a .out .now) (a .count) long
+    let b = c .before .before .before in
+    let s = b .before .before .before .before in
+    let a = s .args in
+    ap (λ (l : List ℕ). set l (marked-place s) (getD l (marked-place s) 0 + 512)) (b .put-bytes .ensures)
+    ∙ mark-put (sampleBytes (widths (a .edition)) (a .sample)) (a .out .now) (a .count) (marked-place s) (size s) (omega (arith, s .pre .1 .0)) (s .pre .1 .1)
 
 pub fill-spec : {M : Type 1} → statement M
 fill-spec =
     tie.close
     (tie.spec
-    Inv-loop
-    μ-loop
-    loop-holds
-    sample-byte-requires
-    add-word
-    word-requires
+    put-bytes-requires
+    sub-last
     mul-out
+    slice-read-out
+    add-out
+    mul-out-2
     slice-write-out
-    add-i
-    loop-less
-    loop-again
     same-length
     returns)

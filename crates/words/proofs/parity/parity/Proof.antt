@@ -1,21 +1,29 @@
--- `words::parity::parity` meets its contract: a byte's ones are those among its eight digits. Assumes nothing.
+-- `words::parity::parity` meets its contract: the table's entry is the byte's parity bit. Assumes nothing.
 use borrow.Author.Needs.{needs}
-use native.Mathlib.Omega.{arith}
-use lib.Count.{ones-le}
-use Rattle.words.specs.Word.{parityOf}
-use Rattle.words.proofs.WordLaws.{ones-in}
+use mathlib.Core.Path.{ap, _∙_}
+use mathlib.Core.List.{List}
+use Prim.Native.Nat.{ℕ}
+use Rattle.words.specs.Table.{parityBy}
+use Rattle.words.proofs.TableLaws.{parity-by}
 use Rattle.words.proofs.parity.parity.Statement.{statement}
 use Rattle.words.proofs.parity.parity.Tie as tie
 
-add-result : tie.Need-add-result
-add-result c = omega (arith, ones-le 8 (c .args .byte) (search needs))
+parities-requires : tie.Need-parities-requires
+parities-requires c κs = search needs
 
-cast-result : tie.Need-cast-result
-cast-result c = search needs
+slice-aggregate-parity-by : tie.Need-slice-aggregate-parity-by
+slice-aggregate-parity-by c = search needs
+
+parity-by-requires : tie.Need-parity-by-requires
+parity-by-requires c κs = search needs
 
 returns : tie.Need-returns
-unfolding parityOf
-returns c = rw (ones-in 8 (c .args .byte) (search needs))
+returns c =
+    let a = c .before .before .before .args in
+    c .parity-by .ensures
+    ∙ ap (λ (t : List ℕ). parityBy t (a .byte)) (c .before .before .parities .ensures)
+    ∙ parity-by (a .byte) (search needs)
 
 pub parity-spec : {M : Type 1} → statement M
-parity-spec = tie.close (tie.spec add-result cast-result returns)
+parity-spec =
+    tie.close (tie.spec parities-requires slice-aggregate-parity-by parity-by-requires returns)

@@ -1,31 +1,26 @@
--- `words::word::word` meets its contract: the parity bit is 0 or 1, so nothing overflows, and the mark adds bit 9. Assumes nothing.
+-- `words::word::word` meets its contract: by the table the word is the byte's own. Assumes nothing.
 use borrow.Author.Needs.{needs}
-use native.Mathlib.Omega.{arith}
-use mathlib.Core.Path.{ap}
-use Rattle.words.specs.Word.{wordOf, markBit}
-use Rattle.words.proofs.WordLaws.{parity-bit}
+use mathlib.Core.Path.{ap, _∙_}
+use mathlib.Core.List.{List}
+use Prim.Native.Nat.{ℕ}
+use Rattle.words.specs.Table.{wordBy}
+use Rattle.words.proofs.TableLaws.{word-by}
 use Rattle.words.proofs.word.word.Statement.{statement}
 use Rattle.words.proofs.word.word.Tie as tie
 
-parity-requires : tie.Need-parity-requires
-parity-requires c κs = search needs
+parities-requires : tie.Need-parities-requires
+parities-requires c κs = search needs
 
-mul-plain : tie.Need-mul-plain
-mul-plain c = omega (arith, parity-bit (c .before .args .byte))
+slice-aggregate-word-by : tie.Need-slice-aggregate-word-by
+slice-aggregate-word-by c = search needs
 
-add-plain : tie.Need-add-plain
-add-plain c = omega (arith, parity-bit (c .before .args .byte))
-
-add-result : tie.Need-add-result
-add-result c = omega (arith, parity-bit (c .before .before .args .byte))
+word-by-requires : tie.Need-word-by-requires
+word-by-requires c κs = search needs
 
 returns : tie.Need-returns
-unfolding wordOf
-returns c = omega (arith, ap markBit (c .if1 .taken))
-
-returns-2 : tie.Need-returns-2
-unfolding wordOf
-returns-2 c = omega (arith, ap markBit (c .if1 .left))
+returns c =
+    let a = c .before .before .before .args in
+    c .word-by .ensures ∙ ap (λ (t : List ℕ). wordBy t (a .last) (a .byte)) (c .before .before .parities .ensures) ∙ word-by (a .last) (a .byte) (search needs)
 
 pub word-spec : {M : Type 1} → statement M
-word-spec = tie.close (tie.spec parity-requires mul-plain add-plain add-result returns returns-2)
+word-spec = tie.close (tie.spec parities-requires slice-aggregate-word-by word-by-requires returns)

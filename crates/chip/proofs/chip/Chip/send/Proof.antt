@@ -1,74 +1,26 @@
--- `chip::chip::Chip::send` meets its contract: 5 with nothing held, else the next word. Assumes nothing.
+-- `chip::chip::Chip::send` meets its contract: a send by the table of parity bits is a send. Assumes nothing.
 use borrow.Author.Needs.{needs}
-use mathlib.Core.Path.{sym, ap, _∙_}
-use mathlib.Core.Bool.{Bool, cond}
-use Rattle.samples.specs.Layout.{widths}
-use Rattle.samples.specs.declared.edition.Edition.the-variants.{First}
-use Rattle.queue.specs.Queue.{advanced, nextWord}
-use Rattle.queue.specs.declared.queue.Sent.{Sent}
-use Rattle.queue.proofs.SendLaws.{send-next}
-use Rattle.control.specs.declared.reply.Reply.the-variants.{NoWord}
-use Rattle.chip.specs.Chip.{done, replied, send, withQueue}
-use Rattle.chip.proofs.ChipLaws.{guard-in, guard-out}
+use mathlib.Core.Path.{ap, _∙_}
+use mathlib.Core.List.{List}
+use Prim.Native.Nat.{ℕ}
+use Rattle.chip.specs.Table.{sendBy}
+use Rattle.chip.proofs.TableLaws.{send-by}
 use Rattle.chip.proofs.chip.Chip.send.Statement.{statement}
 use Rattle.chip.proofs.chip.Chip.send.Tie as tie
 
-inside-requires : tie.Need-inside-requires
-inside-requires c κs = search needs
+parities-requires : tie.Need-parities-requires
+parities-requires c κs = search needs
 
-none-held-requires : tie.Need-none-held-requires
-none-held-requires c κs = search needs
+slice-aggregate-send-by : tie.Need-slice-aggregate-send-by
+slice-aggregate-send-by c = search needs
 
-replied-requires : tie.Need-replied-requires
-replied-requires c κs = search needs
+send-by-requires : tie.Need-send-by-requires
+send-by-requires c κs = search needs
 
 returns : tie.Need-returns
-unfolding send
 returns c =
-    let s = c .before .before .before .before .before .args .self in
-    c .replied .ensures
-    ∙ ap (λ (b : Bool). cond b (replied NoWord s) (done (nextWord (widths First) (s .bank .shadows) (s .queue)) (withQueue (advanced (widths First) (s .queue)) s))) (sym (sym (c .before .before .none-held .ensures) ∙ c .before .if2 .taken))
-    ∙ guard-in s _ (sym (c .before .before .before .before .inside .ensures) ∙ c .before .before .before .if1 .taken)
-
-send-requires : tie.Need-send-requires
-send-requires c κs = search needs
-
-cast-done : tie.Need-cast-done
-cast-done c = search needs
-
-done-requires : tie.Need-done-requires
-done-requires c κs = search needs
-
-returns-2 : tie.Need-returns-2
-unfolding send
-returns-2 c =
-    let s = c .before .before .before .before .before .before .before .before .before .args .self in
-    let some = sym (c .before .before .before .before .before .before .none-held .ensures) ∙ c .before .before .before .before .before .if2 .left in
-    c .done .ensures
-    ∙ ap (λ (r : Sent). done (r .word) (withQueue (r .queue) s)) (c .before .before .before .send .ensures ∙ send-next (widths First) (s .bank .shadows) (s .queue) some)
-    ∙ ap (λ (b : Bool). cond b (replied NoWord s) (done (nextWord (widths First) (s .bank .shadows) (s .queue)) (withQueue (advanced (widths First) (s .queue)) s))) (sym some)
-    ∙ guard-in s _ (sym (c .before .before .before .before .before .before .before .before .inside .ensures) ∙ c .before .before .before .before .before .before .before .if1 .taken)
-
-replied-requires-2 : tie.Need-replied-requires-2
-replied-requires-2 c κs = search needs
-
-returns-3 : tie.Need-returns-3
-unfolding send
-returns-3 c =
-    let s = c .before .before .before .args .self in
-    c .replied2 .ensures ∙ guard-out s _ (sym (c .before .before .inside .ensures) ∙ c .before .if1 .left)
+    let a = c .before .before .before .args in
+    c .send-by .ensures ∙ ap (λ (t : List ℕ). sendBy t (a .self)) (c .before .before .parities .ensures) ∙ send-by (a .self)
 
 pub send-spec : {M : Type 1} → statement M
-send-spec =
-    tie.close
-    (tie.spec
-    inside-requires
-    none-held-requires
-    replied-requires
-    returns
-    send-requires
-    cast-done
-    done-requires
-    returns-2
-    replied-requires-2
-    returns-3)
+send-spec = tie.close (tie.spec parities-requires slice-aggregate-send-by send-by-requires returns)
