@@ -102,7 +102,7 @@ VERSIONS = {
             ('crates/chip/specs/Sent.antt', 'heldSample (c .bank .shadows)', 'heldSample (c .bank .values)'),
             ('crates/chip/proofs/Refusals.antt', *SENT),
             ('crates/chip/proofs/TableLaws.antt', *SENT, 5),
-            ('crates/chip/proofs/chip/Chip/send_by/Proof.antt', *SENT, 3),
+            ('crates/chip/proofs/chip/Chip/send_by/Proof.antt', *SENT),
             ('crates/chip/proofs/chip/Chip/send_into/Proof.antt', *SENT, 2),
             ('crates/chip/proofs/Sends.antt', *SENT, 33),
             ('crates/chip/proofs/Bounds.antt', *SENT, 2),
