@@ -37,6 +37,15 @@ within-reverse (n ∷ ns) ms (x ∷ xs) ys e = within-reverse ns (n ∷ ms) xs (
 '''
 
 
+# bits 0 to 8 with an even number of ones: the table (the odd one is left over), and the proof that no word is 0, which byte 0's then is
+EVEN_TABLE = 'const PARITY: [u8; 256] = [%s]; const ODD: [u8; 256] = [' % ', '.join(str(bin(byte).count('1') % 2) for byte in range(256))
+WORD_SOME = '''word-some last b e =
+    let none : b ≡ 0 = omega arith in
+    let odd : parityOf b ≡ 1 = ap parityOf none ∙ zero-parity in
+    omega arith
+'''
+
+
 def swapped(number, place, other_number, other_place):
     """Two registers exchange their addresses, in code and definition."""
     code, map_ = 'crates/chip/src/place.rt', 'crates/chip/specs/Place.antt'
@@ -102,7 +111,7 @@ VERSIONS = {
             ('crates/chip/specs/Sent.antt', 'heldSample (c .bank .shadows)', 'heldSample (c .bank .values)'),
             ('crates/chip/proofs/Refusals.antt', *SENT),
             ('crates/chip/proofs/TableLaws.antt', *SENT, 5),
-            ('crates/chip/proofs/chip/Chip/send_by/Proof.antt', *SENT, 3),
+            ('crates/chip/proofs/chip/Chip/send_by/Proof.antt', *SENT),
             ('crates/chip/proofs/chip/Chip/send_into/Proof.antt', *SENT, 2),
             ('crates/chip/proofs/Sends.antt', *SENT, 33),
             ('crates/chip/proofs/Bounds.antt', *SENT, 2),
@@ -249,6 +258,16 @@ VERSIONS = {
             ('crates/queue/proofs/BoundLaws.antt', 'leb-true (q .held) 8', 'leb-true (q .held) 9', 2),
             ('crates/queue/proofs/queue/Queue/inside/Proof.antt', '.held) 8', '.held) 9', 3),
         ], ['queue'], [('chip', 'inside-bounded')]),
+    'even_parity': (
+        'bits 0 to 8 have an even number of ones, in table, writer and reader alike', [
+            ('crates/words/src/parity.rt', 'const PARITY: [u8; 256] = [', EVEN_TABLE),
+            ('crates/words/specs/Word.antt', 'parityOf b = (onesIn 8 b + 1) % 2', 'parityOf b = onesIn 8 b % 2'),
+            ('crates/words/specs/Word.antt', 'oddOnes w = eqb (onesIn 9 w % 2) 1', 'oddOnes w = eqb (onesIn 9 w % 2) 0'),
+            ('crates/words/proofs/WordLaws.antt', '(onesIn 9 w % 2) 1 (w / 256 % 2) ((onesIn 8 (w % 256) + 1) % 2)', '(onesIn 9 w % 2) 0 (w / 256 % 2) (onesIn 8 (w % 256) % 2)'),
+            ('crates/words/proofs/WordLaws.antt', 'zero-parity : parityOf 0 ≡ 1', 'zero-parity : parityOf 0 ≡ 0'),
+            ('crates/words/proofs/WordLaws.antt', '(b : ℕ) → wordOf last b ≡ 0 → ⊥', '(b : ℕ) → wordOf last b ≡ 0 → b ≡ 0'),
+            ('crates/words/proofs/WordLaws.antt', WORD_SOME, 'word-some last b e = omega arith\n'),
+        ], ['words'], [('samples', 'word-ones')]),
     'counters_15_to_0': (
         "a Resource sample's counters are sent and read last first", in_samples({
             'src/sample.rt': [('counters[i] as u64', 'counters[15 - i] as u64')],

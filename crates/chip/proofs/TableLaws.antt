@@ -17,18 +17,21 @@ use Rattle.chip.specs.Told.{Told}
 use Rattle.chip.specs.declared.chip.Chip.{Chip}
 
 module _ (c : Chip) where
-  -- the next word by the definition and by a table; the answer with a word where there is one, and in any case
+  -- the next word by the definition and by a table; the answer with a word: where there is one, inside the bounds, and in any case
   abbrev next : ℕ
   next = nextWord (widths First) (c .bank .shadows) (c .queue)
 
-  abbrev nextBy : List ℕ → ℕ
+  abbrev pub nextBy : List ℕ → ℕ
   nextBy table = nextWordBy table (widths First) (c .bank .shadows) (c .queue)
 
   abbrev sent : ℕ → Told
   sent word = done word (withQueue (advanced (widths First) (c .queue)) c)
 
+  abbrev pub unlessNone : Bool → ℕ → Told
+  unlessNone none word = cond none (replied NoWord c) (sent word)
+
   abbrev answer : Bool → Bool → ℕ → Told
-  answer in-bounds none word = cond in-bounds (cond none (replied NoWord c) (sent word)) (replied Outside c)
+  answer in-bounds none word = cond in-bounds (unlessNone none word) (replied Outside c)
 
   -- what the answers with the two words have in common the sends have in common: neither 15 nor 5 looks at the word
   alike : {A : Type 0} (f : Told → A) (table : List ℕ) → f (sent (nextBy table)) ≡ f (sent next) → f (sendBy table c) ≡ f (send c)

@@ -4,7 +4,7 @@ use Prim.Native.Nat.{ℕ, zero, suc, _+_, _*_, _/_, _%_, _<_}
 use native.Mathlib.Nat.{add-zero, zero-add, add-suc, suc-add, zero-lt-suc, mod-lt, mod-eq-of-lt, le-of-suc-le-suc, not-suc-le-zero}
 use native.Mathlib.Omega.{arith}
 use mathlib.Core.Path.{_≡_, refl, sym, ap, ap₂, _∙_, subst}
-use mathlib.Core.Bool.{Bool, true, _&&_}
+use mathlib.Core.Bool.{Bool, true, false, _&&_}
 use mathlib.Core.List.{List, [], _∷_}
 use lib.Dec.{eqb, ltb}
 use lib.ListN.{length, getD}
@@ -72,6 +72,11 @@ parity-by b h =
 pub word-by : (last : Bool) (b : ℕ) → b < 256 → wordBy parityTable last b ≡ wordOf last b
 unfolding wordBy wordOf
 word-by last b h = ap (λ (p : ℕ). b + 256 * p + 512 * markBit last) (parity-by b h)
+
+-- by a table with no entry: past a table's end the bit is 0
+pub word-by-none : (b : ℕ) → wordBy [] false b ≡ b
+unfolding wordBy
+word-by-none b = omega arith
 
 pub odd-by : (w : ℕ) → oddBy parityTable w ≡ oddOnes w
 odd-by w = ap (eqb (w / 256 % 2)) (parity-by (byteOf w) (mod-lt w (zero-lt-suc 255))) ∙ sym (odd-parity w)

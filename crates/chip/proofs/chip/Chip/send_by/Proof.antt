@@ -1,17 +1,15 @@
 -- `chip::chip::Chip::send_by` meets its contract: 5 with nothing held, else the next word. Assumes nothing.
 use borrow.Author.Needs.{needs}
 use mathlib.Core.Path.{sym, ap, _∙_}
-use mathlib.Core.Bool.{Bool, cond}
+use mathlib.Core.Bool.{Bool}
 use Rattle.samples.specs.Layout.{widths}
 use Rattle.samples.specs.declared.edition.Edition.the-variants.{First}
-use Rattle.queue.specs.Queue.{advanced}
-use Rattle.queue.specs.Table.{nextWordBy}
 use Rattle.queue.specs.declared.queue.Sent.{Sent}
 use Rattle.queue.proofs.TableLaws.{send-next-by}
-use Rattle.control.specs.declared.reply.Reply.the-variants.{NoWord}
-use Rattle.chip.specs.Chip.{done, replied, withQueue}
+use Rattle.chip.specs.Chip.{done, withQueue}
 use Rattle.chip.specs.Table.{sendBy}
 use Rattle.chip.proofs.ChipLaws.{guard-in, guard-out}
+use Rattle.chip.proofs.TableLaws.{nextBy, unlessNone}
 use Rattle.chip.proofs.chip.Chip.send_by.Statement.{statement}
 use Rattle.chip.proofs.chip.Chip.send_by.Tie as tie
 
@@ -31,7 +29,7 @@ returns c =
     let s = a .self in
     let t = a .table .now in
     c .replied .ensures
-    ∙ ap (λ (b : Bool). cond b (replied NoWord s) (done (nextWordBy t (widths First) (s .bank .shadows) (s .queue)) (withQueue (advanced (widths First) (s .queue)) s))) (sym (sym (c .before .before .none-held .ensures) ∙ c .before .if2 .taken))
+    ∙ ap (λ (b : Bool). unlessNone s b (nextBy s t)) (sym (sym (c .before .before .none-held .ensures) ∙ c .before .if2 .taken))
     ∙ guard-in s _ (sym (c .before .before .before .before .inside .ensures) ∙ c .before .before .before .if1 .taken)
 
 send-by-requires : tie.Need-send-by-requires
@@ -52,7 +50,7 @@ returns-2 c =
     let some = sym (c .before .before .before .before .before .before .none-held .ensures) ∙ c .before .before .before .before .before .if2 .left in
     c .done .ensures
     ∙ ap (λ (r : Sent). done (r .word) (withQueue (r .queue) s)) (c .before .before .before .send-by .ensures ∙ send-next-by t (widths First) (s .bank .shadows) (s .queue) some)
-    ∙ ap (λ (b : Bool). cond b (replied NoWord s) (done (nextWordBy t (widths First) (s .bank .shadows) (s .queue)) (withQueue (advanced (widths First) (s .queue)) s))) (sym some)
+    ∙ ap (λ (b : Bool). unlessNone s b (nextBy s t)) (sym some)
     ∙ guard-in s _ (sym (c .before .before .before .before .before .before .before .before .inside .ensures) ∙ c .before .before .before .before .before .before .before .if1 .taken)
 
 replied-requires-2 : tie.Need-replied-requires-2
