@@ -81,10 +81,10 @@ module _ (r : Bool) (line bits : ℕ) (c : Chip) (small : line < 8) (s : Shaped 
       copy false e = s .shadows
 
   -- so the reader gives it back from its words, whatever comes after them
-  pub taken-read : (rest : List ℕ) → readPart (widths First) (sampleWords (widths First) (takenSample r line bits c) ++ rest) ≡ foundBy Good (takenSample r line bits c) (sampleLength (widths First) r)
+  pub taken-read : (rest : List ℕ) → readPart (widths First) (sampleWords (widths First) (takenSample r line bits c) ++ rest) ≡ foundBy Good (takenSample r line bits c) (sampleLength (widths First) r) (sampleLength (widths First) r)
   taken-read rest =
       read-written (widths First) (takenSample r line bits c) rest taken-writable
-      ∙ ap (λ (k : Bool). foundBy Good (takenSample r line bits c) (sampleLength (widths First) k)) (header-kind line small r (c .control .lost))
+      ∙ ap (λ (k : Bool). foundBy Good (takenSample r line bits c) (sampleLength (widths First) k) (sampleLength (widths First) k)) (header-kind line small r (c .control .lost))
 
 -- ---- "0 .. sample taken"
 

@@ -2,7 +2,7 @@
 -- between tests, so both ways. A part of a stream is in one of three cases, with three different answers: the first bad word decides; the
 -- words are good but too few, 20; as many as are wanted are good, a sample, whatever comes after. So each number of a part is told both
 -- ways. By cases on the tests, and by induction on the words. Assumes nothing.
-use Prim.Native.Nat.{ℕ, zero, suc, _+_, _≤_, _<_, suc-le-suc}
+use Prim.Native.Nat.{ℕ, zero, suc, _+_, _-_, _≤_, _<_, suc-le-suc}
 use native.Mathlib.Nat.{add-zero, not-suc-le-zero, zero-add, zero-lt-suc}
 use native.Mathlib.Omega.{arith}
 use mathlib.Core.Path.{_≡_, refl, sym, ap, _∙_, subst}
@@ -16,15 +16,15 @@ use borrow.Author.Tests.{eq-eqb, eqb-false, eqb-true, ltb-false, ltb-true, ne-eq
 use Rattle.words.specs.Word.{byteOf, marked, oddOnes, tooLarge}
 use Rattle.samples.specs.Layout.{Widths, resource, sampleLength}
 use Rattle.samples.specs.Write.{Row, row, writable, writeAnswer, writtenRow}
-use Rattle.samples.specs.Read.{Found, faultAt, found, foundBy, isGood, nothing, readPart, sampleOf, scan, verdictNumber, wanted}
+use Rattle.samples.specs.Read.{Found, decidedAt, faultAt, found, foundBy, isGood, nothing, readPart, sampleOf, scan, verdictNumber, wanted}
 use Rattle.samples.specs.declared.sample.Sample.{Sample}
 use Rattle.samples.specs.declared.reader.Reading.{Reading}
 use Rattle.samples.specs.declared.reader.Verdict.{Verdict}
 use Rattle.samples.specs.declared.reader.Verdict.the-variants.{Good, Unfinished, TooLarge, Parity, Header, Mark}
 use Rattle.samples.specs.declared.writer.Written.{Written}
 use Rattle.samples.specs.declared.writer.Written.the-variants.{Short, Unfit, Words}
-use Rattle.samples.proofs.ReadLaws.{faultBy, scan-word}
-use Rattle.samples.proofs.Theorems.{accepted-count, accepted-words, accepted-writable, read-written}
+use Rattle.samples.proofs.ReadLaws.{faultBy, scan-bad, scan-end, scan-last, scan-next}
+use Rattle.samples.proofs.Theorems.{accepted-count, accepted-place, accepted-words, accepted-writable, read-written}
 
 -- ---- the writer: 17 exactly for a sample that isn't writable, 18 for a writable one without room
 
@@ -68,7 +68,20 @@ pub reads-number : (w : Widths) (ws : List ℕ) → readPart w ws .number ≡ ve
 unfolding readPart
 reads-number w ws = go (scan (wanted w ws) 0 ws)
   where
-    go : (v : Verdict) → foundBy v (sampleOf w (map byteOf ws)) (wanted w ws) .number ≡ verdictNumber v
+    go : (v : Verdict) → foundBy v (sampleOf w (map byteOf ws)) (wanted w ws) (decidedAt (wanted w ws) 0 ws) .number ≡ verdictNumber v
+    go Good = refl
+    go Unfinished = refl
+    go TooLarge = refl
+    go Parity = refl
+    go Header = refl
+    go Mark = refl
+
+-- and where it was decided
+pub reads-place : (w : Widths) (ws : List ℕ) → readPart w ws .place ≡ decidedAt (wanted w ws) 0 ws
+unfolding readPart
+reads-place w ws = go (scan (wanted w ws) 0 ws)
+  where
+    go : (v : Verdict) → foundBy v (sampleOf w (map byteOf ws)) (wanted w ws) (decidedAt (wanted w ws) 0 ws) .place ≡ decidedAt (wanted w ws) 0 ws
     go Good = refl
     go Unfinished = refl
     go TooLarge = refl
@@ -78,7 +91,7 @@ reads-number w ws = go (scan (wanted w ws) 0 ws)
 
 -- two readings that are told alike are equal, so the reader's contract leaves one
 pub reading-one : (a b : Reading) → found a ≡ found b → a ≡ b
-reading-one a b e = λ i. record { sample = e i .sample; count = e i .count; verdict = same i }
+reading-one a b e = λ i. record { sample = e i .sample; count = e i .count; place = e i .place; verdict = same i }
   where
     of : ℕ → Verdict
     of n = cond (eqb n 0) Good (cond (eqb n 20) Unfinished (cond (eqb n 21) TooLarge (cond (eqb n 22) Parity (cond (eqb n 23) Header Mark))))
@@ -124,7 +137,10 @@ pub refused-zeros : (w : Widths) (ws : List ℕ) → eqb (readPart w ws .number)
 unfolding readPart
 refused-zeros w ws e = go (scan (wanted w ws) 0 ws) e
   where
-    zeros : (number : ℕ) → AllZeros (nothing number)
+    p : ℕ
+    p = decidedAt (wanted w ws) 0 ws
+
+    zeros : (number : ℕ) → AllZeros (nothing number p)
     zeros number =
         record {
           header = refl;
@@ -136,13 +152,13 @@ refused-zeros w ws e = go (scan (wanted w ws) 0 ws) e
           count = refl;
         }
 
-    go : (v : Verdict) → eqb (foundBy v (sampleOf w (map byteOf ws)) (wanted w ws) .number) 0 ≡ false → AllZeros (foundBy v (sampleOf w (map byteOf ws)) (wanted w ws))
-    go Good p = absurd (false≢true (sym p))
-    go Unfinished p = zeros 20
-    go TooLarge p = zeros 21
-    go Parity p = zeros 22
-    go Header p = zeros 23
-    go Mark p = zeros 24
+    go : (v : Verdict) → eqb (foundBy v (sampleOf w (map byteOf ws)) (wanted w ws) p .number) 0 ≡ false → AllZeros (foundBy v (sampleOf w (map byteOf ws)) (wanted w ws) p)
+    go Good q = absurd (false≢true (sym q))
+    go Unfinished q = zeros 20
+    go TooLarge q = zeros 21
+    go Parity q = zeros 22
+    go Header q = zeros 23
+    go Mark q = zeros 24
 
 -- ---- the reader, over the words of a part
 
@@ -160,52 +176,43 @@ pub record Reached (w : Widths) (ws : List ℕ) (p : ℕ) : Type 0 where
   pub inside : p < wanted w ws
   pub before : GoodBelow w ws p
 
--- good words are a sample where there are as many as that, and else leave it to the words after them
-good-words : (n i k : ℕ) (ws : List ℕ) → i < n → i + k ≤ n → k ≤ length ws → ((j : ℕ) → j < k → isGood (faultAt n (i + j) (getD ws j 0)) ≡ true) → scan n i ws ≡ cond (eqb (i + k) n) Good (scan n (i + k) (drop k ws))
-good-words n i zero ws more few long good = rw (add-zero, ne-eqb i n (λ q. omega arith))
-good-words n i (suc k) [] more few long good = absurd (not-suc-le-zero long)
-good-words n i (suc k) (w ∷ ws) more few long good = scan-word n i w ws (rw add-zero at (good 0 (zero-lt-suc k))) ∙ go (eqb (suc i) n) refl (good-words n (suc i) k ws)
-  where
-    next : (j : ℕ) → suc i + j ≡ i + suc j
-    next j = omega arith
-
-    go : (t : Bool) → eqb (suc i) n ≡ t → (suc i < n → suc i + k ≤ n → k ≤ length ws → ((j : ℕ) → j < k → isGood (faultAt n (suc i + j) (getD ws j 0)) ≡ true) → scan n (suc i) ws ≡ cond (eqb (suc i + k) n) Good (scan n (suc i + k) (drop k ws))) → cond (eqb (suc i) n) Good (scan n (suc i) ws) ≡ cond (eqb (i + suc k) n) Good (scan n (i + suc k) (drop k ws))
-    go true e ih = rw (e, eq-eqb (i + suc k) n (omega (arith, eqb-true (suc i) n e)))
-    go false e ih = rw e (rw next at (ih (omega (arith, eqb-false (suc i) n e)) (omega arith) (omega arith) (λ j h. rw (next j) (good (suc j) (suc-le-suc h)))))
-
 module _ (w : Widths) (ws : List ℕ) where
   -- fewer good words than are wanted leave it to the words after them
-  scan-past : (p : ℕ) → p ≤ length ws → p < wanted w ws → GoodBelow w ws p → scan (wanted w ws) 0 ws ≡ scan (wanted w ws) p (drop p ws)
-  scan-past p there inside good =
-      let n : ℕ = wanted w ws in
-      simp zero-add at (good-words n 0 p ws) (omega arith) (omega arith) there good
-      ∙ ap (λ (t : Bool). cond t Good (scan n p (drop p ws))) (ne-eqb p n (λ q. omega arith))
+  scan-past : (p : ℕ) → p ≤ length ws → p < wanted w ws → GoodBelow w ws p → (scan (wanted w ws) 0 ws ≡ scan (wanted w ws) p (drop p ws)) × (decidedAt (wanted w ws) 0 ws ≡ decidedAt (wanted w ws) p (drop p ws))
+  scan-past zero there inside good = (refl, refl)
+  scan-past (suc p) there inside good =
+      let past = scan-past p (omega arith) (omega arith) (λ j h. good j (omega arith)) in
+      let next = scan-next (wanted w ws) p ws (omega arith) (good p (omega arith)) (λ e. omega arith) in
+      (past .0 ∙ next .0, past .1 ∙ next .1)
 
-  -- "The first bad word decides", whatever comes after it
-  pub first-bad-decides : (p : ℕ) → Reached w ws p → isGood (faultIn w ws p) ≡ false → readPart w ws .number ≡ verdictNumber (faultIn w ws p)
-  first-bad-decides p r bad =
-      let n : ℕ = wanted w ws in
-      reads-number w ws
-      ∙ ap verdictNumber
-      (scan-past p (omega (arith, r .there)) (r .inside) (r .before)
-      ∙ ap (scan n p) (drop-cons ws p 0 (r .there))
-      ∙ scan-word n p (getD ws p 0) (drop (suc p) ws) bad)
+  -- what the scan gives, and where, is what the reader gives
+  told : (v : Verdict) (p : ℕ) → scan (wanted w ws) 0 ws ≡ v → decidedAt (wanted w ws) 0 ws ≡ p → (readPart w ws .number ≡ verdictNumber v) × (readPart w ws .place ≡ p)
+  told v p a b = (reads-number w ws ∙ ap verdictNumber a, reads-place w ws ∙ b)
 
-  -- "20 the words so far are good but unfinished"
-  pub unfinished-20 : length ws < wanted w ws → GoodBelow w ws (length ws) → readPart w ws .number ≡ 20
-  unfolding scan
-  unfinished-20 few good =
-      let n : ℕ = wanted w ws in
-      reads-number w ws ∙ ap verdictNumber (scan-past (length ws) (omega arith) few good ∙ ap (scan n (length ws)) (drop-length ws))
+  -- "The first bad word decides", whatever comes after it; Wish 12: "the place of the deciding word"
+  broken-told : (p : ℕ) → Reached w ws p → isGood (faultIn w ws p) ≡ false → (readPart w ws .number ≡ verdictNumber (faultIn w ws p)) × (readPart w ws .place ≡ p)
+  broken-told p r bad =
+      let past = scan-past p (omega (arith, r .there)) (r .inside) (r .before) in
+      let here = scan-bad (wanted w ws) p ws (r .there) bad in
+      told (faultIn w ws p) p (past .0 ∙ here .0) (past .1 ∙ here .1)
+
+  -- "20 the words so far are good but unfinished"; "with 20, the number of good words"
+  unfinished-told : length ws < wanted w ws → GoodBelow w ws (length ws) → (readPart w ws .number ≡ 20) × (readPart w ws .place ≡ length ws)
+  unfinished-told few good =
+      let past = scan-past (length ws) (omega arith) few good in
+      let end = scan-end (wanted w ws) (length ws) ws (omega arith) in
+      told Unfinished (length ws) (past .0 ∙ end .0) (past .1 ∙ end .1)
 
   -- as many good words as are wanted are a sample
-  pub whole-0 : wanted w ws ≤ length ws → GoodBelow w ws (wanted w ws) → readPart w ws .number ≡ 0
-  whole-0 enough good =
-      let n : ℕ = wanted w ws in
-      reads-number w ws
-      ∙ ap verdictNumber
-      (simp zero-add at (good-words n 0 n ws) (omega arith) (omega arith) enough good
-      ∙ ap (λ (t : Bool). cond t Good (scan n n (drop n ws))) (eq-eqb n n refl))
+  whole-told : wanted w ws ≤ length ws → GoodBelow w ws (wanted w ws) → (readPart w ws .number ≡ 0) × (readPart w ws .place ≡ wanted w ws)
+  whole-told enough good =
+      let p : ℕ = wanted w ws - 1 in
+      let past = scan-past p (omega arith) (omega arith) (λ j h. good j (omega arith)) in
+      let last = scan-last (wanted w ws) p ws (omega arith) (good p (omega arith)) (omega arith) in
+      told Good (wanted w ws) (past .0 ∙ last .0) (past .1 ∙ last .1)
+
+  pub first-bad-decides : (p : ℕ) → Reached w ws p → isGood (faultIn w ws p) ≡ false → readPart w ws .number ≡ verdictNumber (faultIn w ws p)
+  first-bad-decides p r bad = broken-told p r bad .0
 
 -- the three cases, which have these three answers
 pub data Part (w : Widths) (ws : List ℕ) : Type 0 where
@@ -248,25 +255,25 @@ number-good Mark = refl
 module _ (w : Widths) (ws : List ℕ) where
   -- 0, a sample: as many good words as are wanted
   pub reads-0 : readPart w ws .number ≡ 0 ↔ ((wanted w ws ≤ length ws) × GoodBelow w ws (wanted w ws))
-  reads-0 = (λ e. go e (one-of-three w ws), λ h. whole-0 w ws (h .0) (h .1))
+  reads-0 = (λ e. go e (one-of-three w ws), λ h. whole-told w ws (h .0) (h .1) .0)
     where
       go : readPart w ws .number ≡ 0 → Part w ws → (wanted w ws ≤ length ws) × GoodBelow w ws (wanted w ws)
       go e (broken p r bad) =
           absurd
           (eqb-false (verdictNumber (faultIn w ws p)) 0 (sym (number-good (faultIn w ws p)) ∙ bad) (sym (first-bad-decides w ws p r bad) ∙ e))
-      go e (unfinished few good) = absurd (eqb-false 20 0 refl (sym (unfinished-20 w ws few good) ∙ e))
+      go e (unfinished few good) = absurd (eqb-false 20 0 refl (sym (unfinished-told w ws few good .0) ∙ e))
       go e (whole enough good) = (enough, good)
 
   -- 20: all words of the part are good, and fewer than are wanted
   pub reads-20 : readPart w ws .number ≡ 20 ↔ ((length ws < wanted w ws) × GoodBelow w ws (length ws))
-  reads-20 = (λ e. go e (one-of-three w ws), λ h. unfinished-20 w ws (h .0) (h .1))
+  reads-20 = (λ e. go e (one-of-three w ws), λ h. unfinished-told w ws (h .0) (h .1) .0)
     where
       go : readPart w ws .number ≡ 20 → Part w ws → (length ws < wanted w ws) × GoodBelow w ws (length ws)
       go e (broken p r bad) =
           absurd
           (eqb-false (verdictNumber (faultIn w ws p)) 20 (fault-numbers (wanted w ws) p (getD ws p 0) .0) (sym (first-bad-decides w ws p r bad) ∙ e))
       go e (unfinished few good) = (few, good)
-      go e (whole enough good) = absurd (eqb-false 0 20 refl (sym (whole-0 w ws enough good) ∙ e))
+      go e (whole enough good) = absurd (eqb-false 0 20 refl (sym (whole-told w ws enough good .0) ∙ e))
 
   -- any other number k: a word with no bad one before it, of which the test of k holds
   reads-fault : (k : ℕ) (test : ℕ → Bool) → eqb 0 k ≡ false → eqb 20 k ≡ false → ((p : ℕ) → eqb (verdictNumber (faultIn w ws p)) k ≡ test p) → readPart w ws .number ≡ k ↔ ((p : ℕ) × Reached w ws p × (test p ≡ true))
@@ -275,8 +282,8 @@ module _ (w : Widths) (ws : List ℕ) where
       go : readPart w ws .number ≡ k → Part w ws → (p : ℕ) × Reached w ws p × (test p ≡ true)
       go e (broken p r bad) =
           (p, r, sym (given p) ∙ eq-eqb (verdictNumber (faultIn w ws p)) k (sym (first-bad-decides w ws p r bad) ∙ e))
-      go e (unfinished few good) = absurd (eqb-false 20 k not20 (sym (unfinished-20 w ws few good) ∙ e))
-      go e (whole enough good) = absurd (eqb-false 0 k not0 (sym (whole-0 w ws enough good) ∙ e))
+      go e (unfinished few good) = absurd (eqb-false 20 k not20 (sym (unfinished-told w ws few good .0) ∙ e))
+      go e (whole enough good) = absurd (eqb-false 0 k not0 (sym (whole-told w ws enough good .0) ∙ e))
 
       back : ((p : ℕ) × Reached w ws p × (test p ≡ true)) → readPart w ws .number ≡ k
       back h =
@@ -303,7 +310,7 @@ module _ (w : Widths) (ws : List ℕ) where
 
 -- "(an empty part too)"
 pub empty-20 : (w : Widths) → readPart w [] .number ≡ 20
-empty-20 w = unfinished-20 w [] (omega arith) (λ j h. absurd (not-suc-le-zero h))
+empty-20 w = unfinished-told w [] (omega arith) (λ j h. absurd (not-suc-le-zero h)) .0
 
 -- "Words after the sample aren't looked at": with any others behind the sample's own the whole answer is the same
 pub rest-not-looked-at : (w : Widths) (ws rest : List ℕ) → readPart w ws .number ≡ 0 → readPart w (take (readPart w ws .count) ws ++ rest) ≡ readPart w ws
@@ -312,4 +319,4 @@ rest-not-looked-at w ws rest taken =
     let size : readPart w ws .count ≡ sampleLength w (resource (s .header)) = accepted-count w ws taken .0 in
     ap (λ (l : List ℕ). readPart w (l ++ rest)) (accepted-words w ws taken)
     ∙ read-written w s rest (accepted-writable w ws taken)
-    ∙ (λ i. record { sample = s; count = sym size i; number = sym taken i })
+    ∙ (λ i. record { sample = s; count = sym size i; place = sym (accepted-place w ws taken ∙ size) i; number = sym taken i })

@@ -7,13 +7,13 @@ use mathlib.Core.Path.{_≡_, refl, sym, ap, ap₂, _∙_}
 use mathlib.Core.Bool.{Bool, true, false, cond, not, _&&_, false≢true}
 use mathlib.Core.List.{List, [], _∷_, map}
 use lib.Dec.{eqb, leb}
-use lib.ListN.{length, getD, take, drop, replicate, length-take, List·getD-map}
+use lib.ListN.{length, getD, take, drop, replicate, drop-of-length-le, length-take, List·getD-map}
 use lib.Seq.{drop-cons, drop-drop}
-use borrow.Author.Tests.{eqb-true}
+use borrow.Author.Tests.{eq-eqb, eqb-true, ne-eqb}
 use Rattle.words.specs.Bytes.{number}
 use Rattle.words.specs.Word.{tooLarge, oddOnes, marked, byteOf}
 use Rattle.words.proofs.ByteLaws.{number-below}
-use Rattle.samples.specs.Read.{faultAt, found, foundBy, gather, isGood, orElse, readPart, refusal, sampleOf, scan, wanted}
+use Rattle.samples.specs.Read.{decidedAt, faultAt, found, foundBy, gather, isGood, orElse, readPart, refusal, sampleOf, scan, wanted}
 use Rattle.samples.specs.Layout.{Widths, counterWidths, fieldWidths, resource, total}
 use Rattle.samples.specs.declared.sample.Sample.{Sample}
 use Rattle.samples.specs.declared.reader.Verdict.{Verdict}
@@ -32,6 +32,39 @@ fault-by n place w a b c d e = λ i. faultBy (a i) (b i) (c i) (d i) (e i)
 pub scan-word : (n i w : ℕ) (ws : List ℕ) {good : Bool} → isGood (faultAt n i w) ≡ good → scan n i (w ∷ ws) ≡ cond good (cond (eqb (suc i) n) Good (scan n (suc i) ws)) (faultAt n i w)
 unfolding scan
 scan-word n i w ws e = ap (λ (g : Bool). cond g (cond (eqb (suc i) n) Good (scan n (suc i) ws)) (faultAt n i w)) e
+
+-- and of where it is decided
+pub decided-word : (n i w : ℕ) (ws : List ℕ) {good : Bool} → isGood (faultAt n i w) ≡ good → decidedAt n i (w ∷ ws) ≡ cond good (cond (eqb (suc i) n) n (decidedAt n (suc i) ws)) i
+unfolding decidedAt
+decided-word n i w ws e = ap (λ (g : Bool). cond g (cond (eqb (suc i) n) n (decidedAt n (suc i) ws)) i) e
+
+-- the same of the words from a place of a part on: what decides, and where
+module _ (n i : ℕ) (ws : List ℕ) (there : i < length ws) where
+  scan-here : {good : Bool} → isGood (faultAt n i (getD ws i 0)) ≡ good → (scan n i (drop i ws) ≡ cond good (cond (eqb (suc i) n) Good (scan n (suc i) (drop (suc i) ws))) (faultAt n i (getD ws i 0))) × (decidedAt n i (drop i ws) ≡ cond good (cond (eqb (suc i) n) n (decidedAt n (suc i) (drop (suc i) ws))) i)
+  scan-here e =
+      let here : drop i ws ≡ getD ws i 0 ∷ drop (suc i) ws = drop-cons ws i 0 there in
+      (ap (scan n i) here ∙ scan-word n i (getD ws i 0) (drop (suc i) ws) e, ap (decidedAt n i) here ∙ decided-word n i (getD ws i 0) (drop (suc i) ws) e)
+
+  -- a fault decides
+  pub scan-bad : isGood (faultAt n i (getD ws i 0)) ≡ false → (scan n i (drop i ws) ≡ faultAt n i (getD ws i 0)) × (decidedAt n i (drop i ws) ≡ i)
+  scan-bad bad = scan-here bad
+
+  -- so does the last word that is wanted
+  pub scan-last : isGood (faultAt n i (getD ws i 0)) ≡ true → suc i ≡ n → (scan n i (drop i ws) ≡ Good) × (decidedAt n i (drop i ws) ≡ n)
+  scan-last good last =
+      let q : eqb (suc i) n ≡ true = eq-eqb (suc i) n last in
+      (scan-here good .0 ∙ ap (λ (t : Bool). cond t Good (scan n (suc i) (drop (suc i) ws))) q, scan-here good .1 ∙ ap (λ (t : Bool). cond t n (decidedAt n (suc i) (drop (suc i) ws))) q)
+
+  -- another good word leaves it to the words after it
+  pub scan-next : isGood (faultAt n i (getD ws i 0)) ≡ true → (suc i ≡ n → ⊥) → (scan n i (drop i ws) ≡ scan n (suc i) (drop (suc i) ws)) × (decidedAt n i (drop i ws) ≡ decidedAt n (suc i) (drop (suc i) ws))
+  scan-next good more =
+      let q : eqb (suc i) n ≡ false = ne-eqb (suc i) n more in
+      (scan-here good .0 ∙ ap (λ (t : Bool). cond t Good (scan n (suc i) (drop (suc i) ws))) q, scan-here good .1 ∙ ap (λ (t : Bool). cond t n (decidedAt n (suc i) (drop (suc i) ws))) q)
+
+-- and past the part's end there is none
+pub scan-end : (n i : ℕ) (ws : List ℕ) → length ws ≤ i → (scan n i (drop i ws) ≡ Unfinished) × (decidedAt n i (drop i ws) ≡ i)
+unfolding scan decidedAt
+scan-end n i ws past = (ap (scan n i) (drop-of-length-le ws past), ap (decidedAt n i) (drop-of-length-le ws past))
 
 -- a good scan has a good first word, and goes on to a good scan unless that word was the last
 pub scan-first : (f : Verdict) (t : Bool) (rest : Verdict) → isGood (orElse f (cond t Good rest)) ≡ true → (isGood f ≡ true) × (t ≡ false → isGood rest ≡ true)
@@ -87,6 +120,18 @@ scan-enough n i (w ∷ ws) g = go (eqb (suc i) n) refl (scan-first (faultAt n i 
     go true e more ih = omega (arith, eqb-true (suc i) n e)
     go false e more ih = omega (arith, ih (more e))
 
+-- and is decided after them
+pub good-decided : (n i : ℕ) (ws : List ℕ) → isGood (scan n i ws) ≡ true → decidedAt n i ws ≡ n
+unfolding scan
+good-decided n i [] g = absurd (false≢true g)
+good-decided n i (w ∷ ws) g =
+    let first = scan-first (faultAt n i w) (eqb (suc i) n) (scan n (suc i) ws) g in
+    decided-word n i w ws (first .0) ∙ go (eqb (suc i) n) (first .1) (good-decided n (suc i) ws)
+  where
+    go : (t : Bool) → (t ≡ false → isGood (scan n (suc i) ws) ≡ true) → (isGood (scan n (suc i) ws) ≡ true → decidedAt n (suc i) ws ≡ n) → cond t n (decidedAt n (suc i) ws) ≡ n
+    go true more ih = refl
+    go false more ih = ih (more refl)
+
 -- the header is the first word's byte
 pub header-byte : (ws : List ℕ) → number (take 1 (map byteOf ws)) ≡ byteOf (getD ws 0 0)
 unfolding number
@@ -113,29 +158,29 @@ pub number-read : (k start : ℕ) (ws : List ℕ) (x : ℕ) → x ≡ number (ta
 number-read k start ws x e = rw e (number-take k (drop start (map byteOf ws)) (drop-below start (map byteOf ws) (map-below ws)))
 
 -- a refusal has the numbers and values of its case, whatever a sample would have been
-refused-row : (v : Verdict) (s : Sample) (n : ℕ) → isGood v ≡ false → found (refusal v) ≡ foundBy v s n
-refused-row Good s n e = absurd (false≢true (sym e))
-refused-row Unfinished s n e = refl
-refused-row TooLarge s n e = refl
-refused-row Parity s n e = refl
-refused-row Header s n e = refl
-refused-row Mark s n e = refl
+refused-row : (v : Verdict) (s : Sample) (n p : ℕ) → isGood v ≡ false → found (refusal v p) ≡ foundBy v s n p
+refused-row Good s n p e = absurd (false≢true (sym e))
+refused-row Unfinished s n p e = refl
+refused-row TooLarge s n p e = refl
+refused-row Parity s n p e = refl
+refused-row Header s n p e = refl
+refused-row Mark s n p e = refl
 
 -- the reader's answer, case by case
 module _ (w : Widths) (ws : List ℕ) where
-  pub read-good : (n : ℕ) (s : Sample) → n ≡ wanted w ws → isGood (scan n 0 ws) ≡ true → s ≡ sampleOf w (map byteOf ws) → foundBy Good s n ≡ readPart w ws
+  pub read-good : (n : ℕ) (s : Sample) (p : ℕ) → n ≡ wanted w ws → isGood (scan n 0 ws) ≡ true → s ≡ sampleOf w (map byteOf ws) → p ≡ decidedAt n 0 ws → foundBy Good s n p ≡ readPart w ws
   unfolding readPart
-  read-good n s size good given =
-      let whole : scan (wanted w ws) 0 ws ≡ Good = ap (λ (k : ℕ). scan k 0 ws) (sym size) ∙ is-good (scan n 0 ws) good in
-      ap₂ (foundBy Good) given size ∙ sym (ap (λ (v : Verdict). foundBy v (sampleOf w (map byteOf ws)) (wanted w ws)) whole)
+  read-good n s p size good given place =
+      let whole : Good ≡ scan n 0 ws = sym (is-good (scan n 0 ws) good) in
+      (λ i. foundBy (whole i) (given i) n (place i)) ∙ ap (λ (k : ℕ). foundBy (scan k 0 ws) (sampleOf w (map byteOf ws)) k (decidedAt k 0 ws)) size
 
-  pub read-bad : (n : ℕ) → n ≡ wanted w ws → isGood (scan n 0 ws) ≡ false → found (refusal (scan n 0 ws)) ≡ readPart w ws
+  pub read-bad : (n : ℕ) → n ≡ wanted w ws → isGood (scan n 0 ws) ≡ false → found (refusal (scan n 0 ws) (decidedAt n 0 ws)) ≡ readPart w ws
   unfolding readPart
   read-bad n size bad =
-      refused-row (scan n 0 ws) (sampleOf w (map byteOf ws)) (wanted w ws) bad
-      ∙ ap (λ (k : ℕ). foundBy (scan k 0 ws) (sampleOf w (map byteOf ws)) (wanted w ws)) size
+      refused-row (scan n 0 ws) (sampleOf w (map byteOf ws)) n (decidedAt n 0 ws) bad
+      ∙ ap (λ (k : ℕ). foundBy (scan k 0 ws) (sampleOf w (map byteOf ws)) k (decidedAt k 0 ws)) size
 
-pub read-empty : (w : Widths) (ws : List ℕ) → length ws ≡ 0 → found (refusal Unfinished) ≡ readPart w ws
-unfolding readPart scan
+pub read-empty : (w : Widths) (ws : List ℕ) → length ws ≡ 0 → found (refusal Unfinished 0) ≡ readPart w ws
+unfolding readPart scan decidedAt
 read-empty w [] e = refl
 read-empty w (x ∷ ws) e = absurd (suc-ne-zero _ e)

@@ -15,12 +15,12 @@ use Rattle.words.specs.Word.{wordsOf, isLast, byteOf}
 use Rattle.words.proofs.WordLaws.{words-bytes, word-byte}
 use Rattle.samples.specs.Layout.{Widths, fieldWidths, counterWidths, fieldBytes, sampleBytes, sampleWords, sampleLength, resource, spread, total}
 use Rattle.samples.specs.Write.{Row, allZero, row, within, writable, writeAnswer, writeBuffer}
-use Rattle.samples.specs.Read.{Found, foundBy, gather, isGood, readPart, sampleOf, scan, wanted}
+use Rattle.samples.specs.Read.{Found, decidedAt, foundBy, gather, isGood, readPart, sampleOf, scan, wanted}
 use Rattle.samples.specs.declared.sample.Sample.{Sample}
 use Rattle.samples.specs.declared.reader.Verdict.{Verdict}
 use Rattle.samples.specs.declared.reader.Verdict.the-variants.{Good, Unfinished, TooLarge, Parity, Header, Mark}
 use Rattle.samples.proofs.Gather.{within-gather}
-use Rattle.samples.proofs.ReadLaws.{header-byte, map-below, drop-below, read-good, scan-enough}
+use Rattle.samples.proofs.ReadLaws.{header-byte, map-below, drop-below, good-decided, read-good, scan-enough}
 use Rattle.samples.proofs.RoundTrip.{bytes-back, first-passed, header-fit, sample-back, scan-words, scan-written, sixteen-fit}
 use Rattle.samples.proofs.SampleLaws.{bytes-below, bytes-length, sample-length}
 use Rattle.samples.proofs.WriteLaws.{wrote, wrote-short, wrote-unfit}
@@ -34,7 +34,7 @@ unfolding sampleBytes fieldBytes spread lowBytes rest-of
 header-first w s = refl
 
 -- 1. Reading what the writer wrote, with any words after it, gives the sample and its count back.
-pub read-written : (w : Widths) (s : Sample) (rest : List ℕ) → writable w s ≡ true → readPart w (sampleWords w s ++ rest) ≡ foundBy Good s (sampleLength w (resource (s .header)))
+pub read-written : (w : Widths) (s : Sample) (rest : List ℕ) → writable w s ≡ true → readPart w (sampleWords w s ++ rest) ≡ foundBy Good s (sampleLength w (resource (s .header))) (sampleLength w (resource (s .header)))
 unfolding sampleWords wordsOf
 read-written w s rest fit =
     let n : ℕ = sampleLength w (resource (s .header)) in
@@ -57,10 +57,11 @@ read-written w s rest fit =
     ∙ ap (λ (l : List ℕ). l ++ map byteOf rest) (words-bytes (sampleBytes w s) (bytes-below w s)))
     ∙ sample-back w s fit (map byteOf rest)) in
     sym
-    (read-good w (wordsOf (sampleBytes w s) ++ rest) n s
+    (read-good w (wordsOf (sampleBytes w s) ++ rest) n s n
     (ap (λ (h : ℕ). sampleLength w (resource h)) (sym first))
     good
-    given)
+    given
+    (sym (good-decided n 0 (wordsOf (sampleBytes w s) ++ rest) good)))
 
 map-take : (n : ℕ) (ws : List ℕ) → map byteOf (take n ws) ≡ take n (map byteOf ws)
 map-take zero ws = refl
@@ -90,7 +91,7 @@ module _ (w : Widths) (ws : List ℕ) (taken : readPart w ws .number ≡ 0) wher
   unfolding readPart
   accepted-scan = go (scan (wanted w ws) 0 ws) taken
     where
-      go : (v : Verdict) → foundBy v (sampleOf w (map byteOf ws)) (wanted w ws) .number ≡ 0 → isGood v ≡ true
+      go : (v : Verdict) → foundBy v (sampleOf w (map byteOf ws)) (wanted w ws) (decidedAt (wanted w ws) 0 ws) .number ≡ 0 → isGood v ≡ true
       go Good t = refl
       go Unfinished t = absurd (suc-ne-zero _ t)
       go TooLarge t = absurd (suc-ne-zero _ t)
@@ -98,8 +99,9 @@ module _ (w : Widths) (ws : List ℕ) (taken : readPart w ws .number ≡ 0) wher
       go Header t = absurd (suc-ne-zero _ t)
       go Mark t = absurd (suc-ne-zero _ t)
 
-  accepted : readPart w ws ≡ foundBy Good (sampleOf w (map byteOf ws)) (wanted w ws)
-  accepted = sym (read-good w ws (wanted w ws) (sampleOf w (map byteOf ws)) refl accepted-scan refl)
+  accepted : readPart w ws ≡ foundBy Good (sampleOf w (map byteOf ws)) (wanted w ws) (wanted w ws)
+  accepted =
+      sym (read-good w ws (wanted w ws) (sampleOf w (map byteOf ws)) (wanted w ws) refl accepted-scan refl (sym (good-decided (wanted w ws) 0 ws accepted-scan)))
 
   -- the header read is the first word's byte, so the words wanted are the sample's
   read-header : sampleOf w (map byteOf ws) .header ≡ byteOf (getD ws 0 0)
@@ -144,6 +146,10 @@ module _ (w : Widths) (ws : List ℕ) (taken : readPart w ws .number ≡ 0) wher
 
   pub accepted-count : (readPart w ws .count ≡ sampleLength w (resource (readPart w ws .sample .header))) × (readPart w ws .count ≤ length ws)
   accepted-count = subst (λ (r : Found). (r .count ≡ sampleLength w (resource (r .sample .header))) × (r .count ≤ length ws)) (sym accepted) (sym size, enough)
+
+  -- document 02, Wish 12: with a sample the place is the number of words it took
+  pub accepted-place : readPart w ws .place ≡ readPart w ws .count
+  accepted-place = ap (λ (r : Found). r .place) accepted ∙ sym (ap (λ (r : Found). r .count) accepted)
 
   -- 3. Every accepted sample is one the writer takes (1 has that every sample the writer takes is accepted).
   pub accepted-writable : writable w (readPart w ws .sample) ≡ true

@@ -1,4 +1,4 @@
--- Document 01, "Sample and words": the reader and its answers 20 to 24.
+-- Document 01, "Sample and words": the reader and its answers 20 to 24; and document 02, Wish 12: where it broke.
 use Prim.Native.Nat.{ℕ, suc}
 use mathlib.Core.Bool.{Bool, true, false, cond, not, _&&_}
 use mathlib.Core.List.{List, [], _∷_, map}
@@ -38,6 +38,12 @@ unfoldable pub scan : ℕ → ℕ → List ℕ → Verdict
 scan n place [] = Unfinished
 scan n place (w ∷ ws) = orElse (faultAt n place w) (cond (eqb (suc place) n) Good (scan n (suc place) ws))
 
+-- Wish 12: "With 21 to 24 .. the place of the deciding word, counted from 0 ..; with 20, the number of good words": the first place, from
+-- this one on, with a bad word or none, or after the n that are wanted
+unfoldable pub decidedAt : ℕ → ℕ → List ℕ → ℕ
+decidedAt n place [] = place
+decidedAt n place (w ∷ ws) = cond (isGood (faultAt n place w)) (cond (eqb (suc place) n) n (decidedAt n (suc place) ws)) place
+
 -- the numbers of fields of these widths, from bytes low first
 unfoldable pub gather : List ℕ → List ℕ → List ℕ
 gather [] bs = []
@@ -59,37 +65,40 @@ sampleOf w bs =
 pub record Found : Type 0 where
   pub sample : Sample
   pub count : ℕ
+  pub place : ℕ
   pub number : ℕ
 
--- "With 20 to 24 the reader's sample is all zeros and its word count 0"
-abbrev pub nothing : ℕ → Found
-nothing number = record { sample = zeroSample; count = 0; number = number }
+-- "With 20 to 24 the reader's sample is all zeros and its word count 0"; Wish 12: "The word count stays 0"
+abbrev pub nothing : ℕ → ℕ → Found
+nothing number place = record { sample = zeroSample; count = 0; place = place; number = number }
 
 -- each case's: "or: 20 the words so far are good but unfinished ..; 21 a word above 1023; 22 parity; 23 header bits 5..7; 24 end mark early
 -- or missing". The number of a sample, which document 01 leaves open, is 0
-abbrev pub foundBy : Verdict → Sample → ℕ → Found
-foundBy Good s n = record { sample = s; count = n; number = 0 }
-foundBy Unfinished s n = nothing 20
-foundBy TooLarge s n = nothing 21
-foundBy Parity s n = nothing 22
-foundBy Header s n = nothing 23
-foundBy Mark s n = nothing 24
+abbrev pub foundBy : Verdict → Sample → ℕ → ℕ → Found
+foundBy Good s n place = record { sample = s; count = n; place = place; number = 0 }
+foundBy Unfinished s n place = nothing 20 place
+foundBy TooLarge s n place = nothing 21 place
+foundBy Parity s n place = nothing 22 place
+foundBy Header s n place = nothing 23 place
+foundBy Mark s n place = nothing 24 place
 
 abbrev pub verdictNumber : Verdict → ℕ
-verdictNumber v = foundBy v zeroSample 0 .number
+verdictNumber v = foundBy v zeroSample 0 0 .number
 
 -- what the reader hands back, told so
 abbrev pub found : Reading → Found
-found r = record { sample = r .sample; count = r .count; number = verdictNumber (r .verdict) }
+found r = record { sample = r .sample; count = r .count; place = r .place; number = verdictNumber (r .verdict) }
 
 -- a refusal as the reader hands it back
-abbrev pub refusal : Verdict → Reading
-refusal v = record { sample = zeroSample; count = 0; verdict = v }
+abbrev pub refusal : Verdict → ℕ → Reading
+refusal v place = record { sample = zeroSample; count = 0; place = place; verdict = v }
 
 -- how many words the sample at the start of a part has: its first word holds the header
 abbrev pub wanted : Widths → List ℕ → ℕ
 wanted w ws = sampleLength w (resource (byteOf (getD ws 0 0)))
 
--- "the first sample and how many words it took"
+-- "the first sample and how many words it took", and where that was decided
 unfoldable pub readPart : Widths → List ℕ → Found
-readPart w ws = foundBy (scan (wanted w ws) 0 ws) (sampleOf w (map byteOf ws)) (wanted w ws)
+readPart w ws =
+    let n = wanted w ws in
+    foundBy (scan n 0 ws) (sampleOf w (map byteOf ws)) n (decidedAt n 0 ws)

@@ -21,7 +21,7 @@ ghost use Rattle.words.specs.Bytes.{number};
 ghost use Rattle.words.specs.Table.{parityTable};
 ghost use Rattle.words.specs.Word.{byteOf};
 ghost use Rattle.samples.specs.Layout.{counterWidths, widths};
-ghost use Rattle.samples.specs.Read.{faultAt, found, gather, isGood, readPart, refusal, sampleOf, scan, verdictNumber, wanted};
+ghost use Rattle.samples.specs.Read.{decidedAt, faultAt, found, gather, isGood, readPart, refusal, sampleOf, scan, verdictNumber, wanted};
 
 // What a reader finds of a word, or of the words of a part.
 pub enum Verdict {
@@ -33,11 +33,19 @@ pub enum Verdict {
     Mark,
 }
 
-// The first sample and how many words it took; zeros beside any verdict but Good.
+// The first sample and how many words it took, zeros beside any verdict but Good; and how many good words stand before the decision: the
+// deciding word's place, all of an unfinished part, or the words of the sample.
 pub struct Reading {
     pub sample: Sample,
     pub count: usize,
+    pub place: usize,
     pub verdict: Verdict,
+}
+
+// What decides, and at which place.
+struct Decision {
+    place: usize,
+    verdict: Verdict,
 }
 
 // Reads the first sample of a part; what comes after it is not looked at.
@@ -45,19 +53,22 @@ pub fn read(edition: Edition, part: &[u16]) -> Reading
     ensures { λ r. ⌜ found r ≡ readPart (widths edition) (now (part .entry)) ⌝ }
 {
     if part.len() == 0 {
-        return refused(Verdict::Unfinished);
+        return refused(0, Verdict::Unfinished);
     }
     let count = word_count(edition, byte(part[0]) as u32);
-    let verdict = scan(part, count);
+    let decision = scan(part, count);
+    let place = decision.place;
+    let verdict = decision.verdict;
     if is_good(verdict) {
         let sample = decode(edition, part);
         return Reading {
             sample,
             count,
+            place,
             verdict: Verdict::Good,
         };
     }
-    refused(verdict)
+    refused(place, verdict)
 }
 
 fn is_good(verdict: Verdict) -> bool
@@ -73,35 +84,45 @@ fn is_good(verdict: Verdict) -> bool
     }
 }
 
-// Nothing read, and why.
-fn refused(verdict: Verdict) -> Reading
-    ensures { λ r. ⌜ r ≡ refusal verdict ⌝ }
+// Nothing read, where and why.
+fn refused(place: usize, verdict: Verdict) -> Reading
+    ensures { λ r. ⌜ r ≡ refusal verdict place ⌝ }
 {
     Reading {
         sample: Sample::zero(),
         count: 0,
+        place,
         verdict,
     }
 }
 
 // The first bad word of a sample of `count` words decides.
-fn scan(part: &[u16], count: usize) -> Verdict
+fn scan(part: &[u16], count: usize) -> Decision
     requires { ⌜ 0 < count ⌝ }
-    ensures { λ r. ⌜ r ≡ scan count 0 (now (part .entry)) ⌝ }
+    ensures { λ r. ⌜ (r .verdict ≡ scan count 0 (now (part .entry))) × (r .place ≡ decidedAt count 0 (now (part .entry))) ⌝ }
 {
     let table = parities();
     let mut i = 0;
     while i < part.len() {
         let fault = fault_at(&table, count, i, part[i]);
         if !is_good(fault) {
-            return fault;
+            return Decision {
+                place: i,
+                verdict: fault,
+            };
         }
         i += 1;
         if i == count {
-            return Verdict::Good;
+            return Decision {
+                place: i,
+                verdict: Verdict::Good,
+            };
         }
     }
-    Verdict::Unfinished
+    Decision {
+        place: i,
+        verdict: Verdict::Unfinished,
+    }
 }
 
 // What is wrong with the word at a place of a sample of `count` words, by the table of parity bits.

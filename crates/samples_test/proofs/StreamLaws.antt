@@ -8,7 +8,7 @@ use mathlib.Core.List.{List, map}
 use lib.ListN.{length}
 use Rattle.words.specs.Word.{byteOf}
 use Rattle.samples.specs.Layout.{Widths}
-use Rattle.samples.specs.Read.{foundBy, isGood, readPart, sampleOf, scan, wanted}
+use Rattle.samples.specs.Read.{decidedAt, foundBy, isGood, readPart, sampleOf, scan, wanted}
 use Rattle.samples.specs.declared.reader.Verdict.{Verdict}
 use Rattle.samples.specs.declared.reader.Verdict.the-variants.{Good, Unfinished, TooLarge, Parity, Header, Mark}
 use Rattle.samples.proofs.ReadLaws.{scan-enough}
@@ -17,7 +17,7 @@ pub count-within : (w : Widths) (ws : List ℕ) → readPart w ws .count ≤ len
 unfolding readPart
 count-within w ws = go (scan (wanted w ws) 0 ws) (scan-enough (wanted w ws) 0 ws)
   where
-    go : (v : Verdict) → (isGood v ≡ true → wanted w ws ≤ 0 + length ws) → foundBy v (sampleOf w (map byteOf ws)) (wanted w ws) .count ≤ length ws
+    go : (v : Verdict) → (isGood v ≡ true → wanted w ws ≤ 0 + length ws) → foundBy v (sampleOf w (map byteOf ws)) (wanted w ws) (decidedAt (wanted w ws) 0 ws) .count ≤ length ws
     go Good enough = rw zero-add at (enough refl)
     go Unfinished enough = omega arith
     go TooLarge enough = omega arith

@@ -3,7 +3,7 @@
 use borrow.Author.Needs.{needs}
 use Prim.Native.Nat.{ℕ, _≤_}
 use native.Mathlib.Nat.{zero-add}
-use mathlib.Core.Path.{_≡_, sym, ap, _∙_, subst}
+use mathlib.Core.Path.{_≡_, sym, ap, ap₂, _∙_, subst}
 use mathlib.Core.Bool.{true}
 use lib.ListN.{length}
 use Rattle.samples.specs.Layout.{resource, sampleLength, widths}
@@ -44,15 +44,15 @@ decode-requires : tie.Need-decode-requires
 decode-requires c κs =
     let d = c .before .before .before in
     let ws = d .before .before .before .before .before .args .part .now in
-    let good : isGood (scan (d .word-count .result) 0 ws) ≡ true = ap isGood (sym (c .before .before .scan .ensures)) ∙ sym (c .before .is-good .ensures) ∙ c .if2 .taken in
+    let good : isGood (scan (d .word-count .result) 0 ws) ≡ true = ap isGood (sym (c .before .before .scan .ensures .0)) ∙ sym (c .before .is-good .ensures) ∙ c .if2 .taken in
     subst (λ (n : ℕ). n ≤ length ws) (size d) (rw zero-add at (scan-enough (d .word-count .result) 0 ws good))
 
 returns-2 : tie.Need-returns-2
 returns-2 c =
     let d = c .before .before .before .before in
     let ws = d .before .before .before .before .before .args .part .now in
-    let good : isGood (scan (d .word-count .result) 0 ws) ≡ true = ap isGood (sym (c .before .before .before .scan .ensures)) ∙ sym (c .before .before .is-good .ensures) ∙ c .before .if2 .taken in
-    read-good (widths (d .before .before .before .before .before .args .edition)) ws (d .word-count .result) (c .decode .result) (size d) good (c .decode .ensures)
+    let good : isGood (scan (d .word-count .result) 0 ws) ≡ true = ap isGood (sym (c .before .before .before .scan .ensures .0)) ∙ sym (c .before .before .is-good .ensures) ∙ c .before .if2 .taken in
+    read-good (widths (d .before .before .before .before .before .args .edition)) ws (d .word-count .result) (c .decode .result) (c .before .before .before .scan .result .place) (size d) good (c .decode .ensures) (c .before .before .before .scan .ensures .1)
 
 refused-requires-2 : tie.Need-refused-requires-2
 refused-requires-2 c κs = search needs
@@ -62,8 +62,8 @@ returns-3 c =
     let s = c .before .before .before in
     let d = s .before in
     let ws = d .before .before .before .before .before .args .part .now in
-    ap found (c .refused2 .ensures ∙ ap refusal (s .scan .ensures))
-    ∙ read-bad (widths (d .before .before .before .before .before .args .edition)) ws (d .word-count .result) (size d) (ap isGood (sym (s .scan .ensures)) ∙ sym (c .before .before .is-good .ensures) ∙ c .before .if2 .left)
+    ap found (c .refused2 .ensures ∙ ap₂ refusal (s .scan .ensures .0) (s .scan .ensures .1))
+    ∙ read-bad (widths (d .before .before .before .before .before .args .edition)) ws (d .word-count .result) (size d) (ap isGood (sym (s .scan .ensures .0)) ∙ sym (c .before .before .is-good .ensures) ∙ c .before .if2 .left)
 
 pub read-spec : {M : Type 1} → statement M
 read-spec =
