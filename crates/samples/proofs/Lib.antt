@@ -1,4 +1,5 @@
 -- The laws that belong to no one function.
+pub mod Decided
 pub mod EditionLaws
 pub mod Gather
 pub mod Numbers

@@ -2,16 +2,15 @@
 -- between tests, so both ways. A part of a stream is in one of three cases, with three different answers: the first bad word decides; the
 -- words are good but too few, 20; as many as are wanted are good, a sample, whatever comes after. So each number of a part is told both
 -- ways. By cases on the tests, and by induction on the words. Assumes nothing.
-use Prim.Native.Nat.{ℕ, zero, suc, _+_, _-_, _≤_, _<_, suc-le-suc}
-use native.Mathlib.Nat.{add-zero, not-suc-le-zero, zero-add, zero-lt-suc}
+use Prim.Native.Nat.{ℕ, zero, suc, _+_, _-_, _≤_, _<_}
+use native.Mathlib.Nat.{not-suc-le-zero, zero-add}
 use native.Mathlib.Omega.{arith}
 use mathlib.Core.Path.{_≡_, refl, sym, ap, _∙_, subst}
 use mathlib.Core.Logic.{_↔_}
 use mathlib.Core.Bool.{Bool, true, false, cond, not, _&&_, false≢true}
-use mathlib.Core.List.{List, [], _∷_, _++_, map}
+use mathlib.Core.List.{List, [], _++_, map}
 use lib.Dec.{eqb, leb, ltb}
 use lib.ListN.{drop, getD, length, take, getD-replicate}
-use lib.Seq.{drop-cons, drop-length}
 use borrow.Author.Tests.{eq-eqb, eqb-false, eqb-true, ltb-false, ltb-true, ne-eqb}
 use Rattle.words.specs.Word.{byteOf, marked, oddOnes, tooLarge}
 use Rattle.samples.specs.Layout.{Widths, resource, sampleLength}
@@ -190,21 +189,21 @@ module _ (w : Widths) (ws : List ℕ) where
   told v p a b = (reads-number w ws ∙ ap verdictNumber a, reads-place w ws ∙ b)
 
   -- "The first bad word decides", whatever comes after it; Wish 12: "the place of the deciding word"
-  broken-told : (p : ℕ) → Reached w ws p → isGood (faultIn w ws p) ≡ false → (readPart w ws .number ≡ verdictNumber (faultIn w ws p)) × (readPart w ws .place ≡ p)
+  pub broken-told : (p : ℕ) → Reached w ws p → isGood (faultIn w ws p) ≡ false → (readPart w ws .number ≡ verdictNumber (faultIn w ws p)) × (readPart w ws .place ≡ p)
   broken-told p r bad =
       let past = scan-past p (omega (arith, r .there)) (r .inside) (r .before) in
       let here = scan-bad (wanted w ws) p ws (r .there) bad in
       told (faultIn w ws p) p (past .0 ∙ here .0) (past .1 ∙ here .1)
 
   -- "20 the words so far are good but unfinished"; "with 20, the number of good words"
-  unfinished-told : length ws < wanted w ws → GoodBelow w ws (length ws) → (readPart w ws .number ≡ 20) × (readPart w ws .place ≡ length ws)
+  pub unfinished-told : length ws < wanted w ws → GoodBelow w ws (length ws) → (readPart w ws .number ≡ 20) × (readPart w ws .place ≡ length ws)
   unfinished-told few good =
       let past = scan-past (length ws) (omega arith) few good in
       let end = scan-end (wanted w ws) (length ws) ws (omega arith) in
       told Unfinished (length ws) (past .0 ∙ end .0) (past .1 ∙ end .1)
 
   -- as many good words as are wanted are a sample
-  whole-told : wanted w ws ≤ length ws → GoodBelow w ws (wanted w ws) → (readPart w ws .number ≡ 0) × (readPart w ws .place ≡ wanted w ws)
+  pub whole-told : wanted w ws ≤ length ws → GoodBelow w ws (wanted w ws) → (readPart w ws .number ≡ 0) × (readPart w ws .place ≡ wanted w ws)
   whole-told enough good =
       let p : ℕ = wanted w ws - 1 in
       let past = scan-past p (omega arith) (omega arith) (λ j h. good j (omega arith)) in

@@ -29,7 +29,7 @@ same-mark true = refl
 same-mark false = refl
 
 -- the word of a byte is good at a place where its mark belongs
-fault-word : (n i b : ℕ) (last : Bool) → b < 256 → (eqb i 0 && leb 32 b) ≡ false → eqb (suc i) n ≡ last → faultAt n i (wordOf last b) ≡ Good
+pub fault-word : (n i b : ℕ) (last : Bool) → b < 256 → (eqb i 0 && leb 32 b) ≡ false → eqb (suc i) n ≡ last → faultAt n i (wordOf last b) ≡ Good
 fault-word n i b last h p q =
     fault-by n i (wordOf last b) (word-small last b h) (word-odd last b h)
     (ap (λ (x : ℕ). eqb i 0 && leb 32 x) (word-byte last b h) ∙ p)
@@ -37,7 +37,7 @@ fault-word n i b last h p q =
     (word-marked last b h)
     ∙ same-mark last
 
-after-first : (i b : ℕ) → (eqb (suc i) 0 && leb 32 b) ≡ false
+pub after-first : (i b : ℕ) → (eqb (suc i) 0 && leb 32 b) ≡ false
 after-first i b = ap (λ (t : Bool). t && leb 32 b) (eqb·suc-zero i)
 
 pub scan-written : (n i b : ℕ) (bs rest : List ℕ) → ((j : ℕ) → getD (b ∷ bs) j 0 < 256) → n ≡ suc (i + length bs) → (eqb i 0 && leb 32 b) ≡ false → scan n i (wordsOf (b ∷ bs) ++ rest) ≡ Good
@@ -64,12 +64,14 @@ passed false true false true false e = absurd (false≢true e)
 passed false true false false true e = absurd (false≢true e)
 passed false true false false false e = (refl, refl, refl, refl)
 
+pub word-passed : (n i w : ℕ) → isGood (faultAt n i w) ≡ true → (tooLarge w ≡ false) × (oddOnes w ≡ true) × ((eqb i 0 && leb 32 (byteOf w)) ≡ false) × (marked w ≡ eqb (suc i) n)
+word-passed n i w good =
+    passed (tooLarge w) (oddOnes w) (eqb i 0 && leb 32 (byteOf w)) (eqb (suc i) n) (marked w) (ap isGood (sym (fault-by n i w refl refl refl refl refl)) ∙ good)
+
 module _ (n i w : ℕ) (ws : List ℕ) (good : isGood (scan n i (w ∷ ws)) ≡ true) where
   pub first-passed : (tooLarge w ≡ false) × (oddOnes w ≡ true) × ((eqb i 0 && leb 32 (byteOf w)) ≡ false) × (marked w ≡ eqb (suc i) n)
   unfolding scan
-  first-passed =
-      passed (tooLarge w) (oddOnes w) (eqb i 0 && leb 32 (byteOf w)) (eqb (suc i) n) (marked w)
-      (ap isGood (sym (fault-by n i w refl refl refl refl refl)) ∙ scan-first (faultAt n i w) (eqb (suc i) n) (scan n (suc i) ws) good .0)
+  first-passed = word-passed n i w (scan-first (faultAt n i w) (eqb (suc i) n) (scan n (suc i) ws) good .0)
 
   rest-passed : eqb (suc i) n ≡ false → isGood (scan n (suc i) ws) ≡ true
   unfolding scan

@@ -26,10 +26,10 @@ use Rattle.samples.proofs.SampleLaws.{bytes-below, bytes-length, sample
 use Rattle.samples.proofs.WriteLaws.{wrote, wrote-short, wrote-unfit}
 
 -- the header's byte comes first
-rest-of : Widths → Sample → List ℕ
+pub rest-of : Widths → Sample → List ℕ
 rest-of w s = drop 1 (sampleBytes w s)
 
-header-first : (w : Widths) (s : Sample) → sampleBytes w s ≡ s .header % 256 ∷ rest-of w s
+pub header-first : (w : Widths) (s : Sample) → sampleBytes w s ≡ s .header % 256 ∷ rest-of w s
 unfolding sampleBytes fieldBytes spread lowBytes rest-of
 header-first w s = refl
 
@@ -69,10 +69,10 @@ map-take (suc n) [] = refl
 map-take (suc n) (w ∷ ws) = ap (λ (r : List ℕ). byteOf w ∷ r) (map-take n ws)
 
 -- the first word of a good scan has a header without bits 5 to 7
-header-passed : (n : ℕ) (ws : List ℕ) → isGood (scan n 0 ws) ≡ true → ltb (byteOf (getD ws 0 0)) 32 ≡ true
+header-passed : (n : ℕ) (ws : List ℕ) → isGood (scan n 0 ws) ≡ true → byteOf (getD ws 0 0) < 32
 unfolding scan
 header-passed n [] good = absurd (false≢true good)
-header-passed n (w ∷ ws) good = lt-ltb (byteOf w) 32 (leb-false 32 (byteOf w) (first-passed n 0 w ws good .2))
+header-passed n (w ∷ ws) good = leb-false 32 (byteOf w) (first-passed n 0 w ws good .2)
 
 -- a Trace sample's counters are zeros, and a Resource sample's what was read
 pub within-kind : (r : Bool) (cs : List ℕ) → (r ≡ true → within counterWidths cs ≡ true) → within counterWidths (cond r cs (replicate 16 0)) ≡ true
@@ -84,6 +84,20 @@ pub zeros-kind : (r : Bool) (cs : List ℕ) → (r || allZero (cond r cs (replic
 unfolding allZero
 zeros-kind true cs = refl
 zeros-kind false cs = refl
+
+-- the sample that words give is writable where the header has no bits 5 to 7
+pub read-writable : (w : Widths) (ws : List ℕ) → byteOf (getD ws 0 0) < 32 → writable w (sampleOf w (map byteOf ws)) ≡ true
+unfolding writable sampleOf gather
+read-writable w ws few =
+    let bs : List ℕ = map byteOf ws in
+    let h : ℕ = number (take 1 bs) in
+    let cs : List ℕ = gather counterWidths (drop (total (fieldWidths w)) bs) in
+    let fields : within (fieldWidths w) (gather (fieldWidths w) bs) ≡ true = within-gather (fieldWidths w) bs (map-below ws) in
+    let counters : within counterWidths (cond (resource h) cs (replicate 16 0)) ≡ true =
+    within-kind (resource h) cs (λ e. within-gather counterWidths (drop (total (fieldWidths w)) bs) (drop-below (total (fieldWidths w)) bs (map-below ws))) in
+    let small : ltb h 32 ≡ true = ap (λ (x : ℕ). ltb x 32) (header-byte ws) ∙ lt-ltb (byteOf (getD ws 0 0)) 32 few in
+    let zeros : (resource h || allZero (cond (resource h) cs (replicate 16 0))) ≡ true = zeros-kind (resource h) cs in
+    λ i. fields i && (counters i && (small i && zeros i))
 
 -- what an accepting reader has seen: a good scan, and its whole answer
 module _ (w : Widths) (ws : List ℕ) (taken : readPart w ws .number ≡ 0) where
@@ -128,17 +142,7 @@ module _ (w : Widths) (ws : List ℕ) (taken : readPart w ws .number ≡ 0) wher
       sym whole ∙ ap wordsOf (map-take n ws ∙ sym bytes)
 
   given-writable : writable w (sampleOf w (map byteOf ws)) ≡ true
-  unfolding writable sampleOf gather
-  given-writable =
-      let bs : List ℕ = map byteOf ws in
-      let h : ℕ = number (take 1 bs) in
-      let cs : List ℕ = gather counterWidths (drop (total (fieldWidths w)) bs) in
-      let fields : within (fieldWidths w) (gather (fieldWidths w) bs) ≡ true = within-gather (fieldWidths w) bs (map-below ws) in
-      let counters : within counterWidths (cond (resource h) cs (replicate 16 0)) ≡ true =
-      within-kind (resource h) cs (λ e. within-gather counterWidths (drop (total (fieldWidths w)) bs) (drop-below (total (fieldWidths w)) bs (map-below ws))) in
-      let small : ltb h 32 ≡ true = ap (λ (x : ℕ). ltb x 32) (header-byte ws) ∙ header-passed (wanted w ws) ws accepted-scan in
-      let zeros : (resource h || allZero (cond (resource h) cs (replicate 16 0))) ≡ true = zeros-kind (resource h) cs in
-      λ i. fields i && (counters i && (small i && zeros i))
+  given-writable = read-writable w ws (header-passed (wanted w ws) ws accepted-scan)
 
   -- 2. Words that the reader accepts are exactly what writing their sample gives.
   pub accepted-words : take (readPart w ws .count) ws ≡ sampleWords w (readPart w ws .sample)

@@ -114,13 +114,13 @@ fn scan(part: &[u16], count: usize) -> Decision
         i += 1;
         if i == count {
             return Decision {
-                place: i,
+                place: count,
                 verdict: Verdict::Good,
             };
         }
     }
     Decision {
-        place: i,
+        place: part.len(),
         verdict: Verdict::Unfinished,
     }
 }

@@ -5,14 +5,11 @@ use Prim.Native.Nat.{suc, _-_, _<_, _≤_}
 use native.Mathlib.Omega.{arith}
 use native.Mathlib.Numerals.{add-one}
 use mathlib.Core.Path.{_≡_, refl, sym, ap, _∙_}
-use mathlib.Core.Bool.{Bool, true, false, cond}
-use lib.Dec.{eqb}
-use lib.ListN.{length, getD, drop, drop-of-length-le}
-use lib.Seq.{drop-cons}
-use borrow.Author.Tests.{eq-eqb, ne-eqb, not-true, not-false}
+use mathlib.Core.Bool.{true, false}
+use lib.ListN.{length, getD, drop}
+use borrow.Author.Tests.{not-true, not-false}
 use Rattle.words.specs.Table.{parityTable}
 use Rattle.samples.specs.Read.{decidedAt, faultAt, isGood, scan}
-use Rattle.samples.specs.declared.reader.Verdict.the-variants.{Good}
 use Rattle.samples.proofs.ReadLaws.{scan-bad, scan-end, scan-last, scan-next}
 use Rattle.samples.proofs.reader.scan.Statement.{statement}
 use Rattle.samples.proofs.reader.scan.Tie as tie
@@ -66,7 +63,7 @@ returns-2 c =
     let l = c .before .before .before .before .before .before .before .loop in
     let a = c .before .before .before .before .before .before .before .before .before .before .args in
     let last = scan-last (a .count) (l .i) (a .part .now) (search needs) (good (c .before)) (sym (add-one (l .i)) ∙ c .if2 .taken) in
-    (sym (l .inv .2 ∙ last .0), c .if2 .taken ∙ sym (l .inv .3 ∙ last .1))
+    (sym (l .inv .2 ∙ last .0), sym (l .inv .3 ∙ last .1))
 
 loop-less : tie.Need-loop-less Inv-loop μ-loop
 loop-less c = search needs
@@ -87,8 +84,10 @@ loop-again c =
 returns-3 : tie.Need-returns-3 Inv-loop μ-loop
 returns-3 c =
     let a = c .before .before .before .before .args in
-    let end = scan-end (a .count) (c .before .loop .i) (a .part .now) (search needs) in
-    (sym (c .before .loop .inv .2 ∙ end .0), sym (c .before .loop .inv .3 ∙ end .1))
+    let past : length (a .part .now) ≤ c .before .loop .i = search needs in
+    let end = scan-end (a .count) (c .before .loop .i) (a .part .now) past in
+    let all : c .before .loop .i ≡ length (a .part .now) = omega (arith, past, c .before .loop .inv .1) in
+    (sym (c .before .loop .inv .2 ∙ end .0), sym (c .before .loop .inv .3 ∙ end .1 ∙ all))
 
 pub scan-spec : {M : Type 1} → statement M
 scan-spec =

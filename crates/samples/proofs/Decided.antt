@@ -1,0 +1,210 @@
+-- Document 02, Wish 12, "Say where it broke", in two ways. By the words: those before the place are good, and there the word has the fault
+-- that the number names, or the part ends, or the sample does. And by the writer, without a word on faults: the place is the most words at
+-- the start of the part that some written sample starts with. By the three cases of a part. Assumes nothing.
+use Prim.Native.Nat.{ℕ, zero, suc, _+_, _≤_, _<_}
+use native.Mathlib.Nat.{mod-eq-of-lt, lt-trans, lt-of-lt-of-le}
+use native.Mathlib.Omega.{arith}
+use mathlib.Core.Path.{_≡_, refl, sym, ap, ap₂, _∙_, subst}
+use mathlib.Core.Bool.{Bool, true, false, _&&_, false≢true}
+use mathlib.Core.List.{List, _++_, map}
+use lib.Dec.{eqb, leb, ltb, lit<}
+use lib.ListN.{getD, length, replicate, take, length-append, length-map, length-replicate, List·getD-append, List·getD-map}
+use lib.Seq.{getD-take, length-take-le}
+use borrow.Author.Tests.{leb-false, lt-leb, ltb-false, ltb-true}
+use Rattle.words.specs.Word.{byteOf, marked, wordOf}
+use Rattle.words.proofs.WordLaws.{word-back, word-byte}
+use Rattle.samples.specs.Layout.{Widths, resource, sampleBytes, sampleLength, sampleWords}
+use Rattle.samples.specs.Write.{writable}
+use Rattle.samples.specs.Read.{faultAt, gather, isGood, readPart, sampleOf, verdictNumber, wanted}
+use Rattle.samples.specs.declared.sample.Sample.{Sample}
+use Rattle.samples.proofs.Numbers.{GoodBelow, Part, Reached, broken, broken-told, faultIn, one-of-three, reads-20, unfinished, unfinished-told, whole, whole-told}
+use Rattle.samples.proofs.ReadLaws.{header-byte, map-below}
+use Rattle.samples.proofs.RoundTrip.{after-first, bytes-back, fault-word, header-fit, sixteen-fit, word-passed}
+use Rattle.samples.proofs.SampleLaws.{bytes-below, sample-length, sample-word}
+use Rattle.samples.proofs.Theorems.{header-first, read-writable}
+
+-- ---- by the words
+
+module _ (w : Widths) (ws : List ℕ) where
+  -- every word before the place is good in its place
+  pub place-good : GoodBelow w ws (readPart w ws .place)
+  place-good = go (one-of-three w ws)
+    where
+      at : {p : ℕ} → readPart w ws .place ≡ p → GoodBelow w ws p → GoodBelow w ws (readPart w ws .place)
+      at e = subst (GoodBelow w ws) (sym e)
+
+      go : Part w ws → GoodBelow w ws (readPart w ws .place)
+      go (broken p r bad) = at (broken-told w ws p r bad .1) (r .before)
+      go (unfinished few good) = at (unfinished-told w ws few good .1) good
+      go (whole enough good) = at (whole-told w ws enough good .1) good
+
+  -- it is one of the part's, or its end
+  pub place-within : (readPart w ws .place ≤ length ws) × (readPart w ws .place ≤ wanted w ws)
+  place-within = go (one-of-three w ws)
+    where
+      at : {p : ℕ} → readPart w ws .place ≡ p → (p ≤ length ws) × (p ≤ wanted w ws) → (readPart w ws .place ≤ length ws) × (readPart w ws .place ≤ wanted w ws)
+      at e = subst (λ (p : ℕ). (p ≤ length ws) × (p ≤ wanted w ws)) (sym e)
+
+      go : Part w ws → (readPart w ws .place ≤ length ws) × (readPart w ws .place ≤ wanted w ws)
+      go (broken p r bad) = at (broken-told w ws p r bad .1) (omega (arith, r .there), omega (arith, r .inside))
+      go (unfinished few good) = at (unfinished-told w ws few good .1) (omega arith, omega arith)
+      go (whole enough good) = at (whole-told w ws enough good .1) (enough, omega arith)
+
+  -- "with 20, the number of good words": all of the part
+  pub place-20 : readPart w ws .number ≡ 20 → readPart w ws .place ≡ length ws
+  place-20 e = let few = reads-20 w ws .0 e in unfinished-told w ws (few .0) (few .1) .1
+
+  -- "With 21 to 24 .. the place of the deciding word": the place of a bad word with none before it is that word's
+  pub place-only : (p : ℕ) → Reached w ws p → isGood (faultIn w ws p) ≡ false → readPart w ws .place ≡ p
+  place-only p r bad = broken-told w ws p r bad .1
+
+  -- and with 21 to 24 there is one: the word at the place has the fault of that number (`fault-numbers` says which, and that it has none before
+  -- it in the order), and no word before it has any
+  pub place-fault : 21 ≤ readPart w ws .number → Reached w ws (readPart w ws .place) × (verdictNumber (faultIn w ws (readPart w ws .place)) ≡ readPart w ws .number)
+  place-fault large = go (one-of-three w ws)
+    where
+      few-numbers : (k : ℕ) → readPart w ws .number ≡ k → k < 21 → ⊥
+      few-numbers k e h = omega arith
+
+      go : Part w ws → Reached w ws (readPart w ws .place) × (verdictNumber (faultIn w ws (readPart w ws .place)) ≡ readPart w ws .number)
+      go (broken p r bad) =
+          let b = broken-told w ws p r bad in
+          subst (λ (q : ℕ). Reached w ws q × (verdictNumber (faultIn w ws q) ≡ readPart w ws .number)) (sym (b .1)) (r, sym (b .0))
+      go (unfinished few good) = absurd (few-numbers 20 (unfinished-told w ws few good .0) (lit< tt))
+      go (whole enough good) = absurd (few-numbers 0 (whole-told w ws enough good .0) (lit< tt))
+
+-- ---- by the writer
+
+-- the first k words of the part are those of a sample that the writer takes
+pub record Starts (w : Widths) (ws : List ℕ) (k : ℕ) : Type 0 where
+  pub sample : Sample
+  pub fits : writable w sample ≡ true
+  pub long : k ≤ length (sampleWords w sample)
+  pub same : (j : ℕ) → j < k → getD ws j 0 ≡ getD (sampleWords w sample) j 0
+
+-- a written sample's first word has its header, and each of its words is good in its place
+module _ (w : Widths) (s : Sample) (fit : writable w s ≡ true) where
+  abbrev n : ℕ
+  n = sampleLength w (resource (s .header))
+
+  first-byte : getD (sampleBytes w s) 0 0 ≡ s .header
+  first-byte = ap (λ (l : List ℕ). getD l 0 0) (header-first w s) ∙ mod-eq-of-lt (lt-trans (header-fit w s fit) (lit< tt))
+
+  word : (j : ℕ) → j < n → getD (sampleWords w s) j 0 ≡ wordOf (eqb (suc j) n) (getD (sampleBytes w s) j 0)
+  word = sample-word w s (sixteen-fit w s fit)
+
+  first-header : byteOf (getD (sampleWords w s) 0 0) ≡ s .header
+  first-header = ap byteOf (word 0 (omega arith)) ∙ word-byte (eqb 1 n) (getD (sampleBytes w s) 0 0) (bytes-below w s 0) ∙ first-byte
+
+  written-good : (j : ℕ) → j < n → isGood (faultAt n j (getD (sampleWords w s) j 0)) ≡ true
+  written-good j h = ap (λ (x : ℕ). isGood (faultAt n j x)) (word j h) ∙ ap isGood (fault-word n j (getD (sampleBytes w s) j 0) (eqb (suc j) n) (bytes-below w s j) (header-free j) refl)
+    where
+      header-free : (j : ℕ) → (eqb j 0 && leb 32 (getD (sampleBytes w s) j 0)) ≡ false
+      header-free zero = lt-leb 32 (getD (sampleBytes w s) 0 0) (subst (λ (x : ℕ). x < 32) (sym first-byte) (header-fit w s fit))
+      header-free (suc j) = after-first j (getD (sampleBytes w s) (suc j) 0)
+
+-- a part wants as many words as a sample has that it starts with
+starts-wanted : (w : Widths) (ws : List ℕ) (k : ℕ) (st : Starts w ws k) → 0 < k → wanted w ws ≡ sampleLength w (resource (st .sample .header))
+starts-wanted w ws k st some = ap (λ (b : ℕ). sampleLength w (resource b)) (ap byteOf (st .same 0 some) ∙ first-header w (st .sample) (st .fits))
+
+-- no sample that the writer takes starts with more words of the part
+pub place-most : (w : Widths) (ws : List ℕ) (k : ℕ) → k ≤ length ws → Starts w ws k → k ≤ readPart w ws .place
+place-most w ws k inside st = go (one-of-three w ws)
+  where
+    s : Sample
+    s = st .sample
+
+    short : k ≤ sampleLength w (resource (s .header))
+    short = subst (λ (m : ℕ). k ≤ m) (sample-length w s (sixteen-fit w s (st .fits))) (st .long)
+
+    below : (p : ℕ) → p < k → isGood (faultIn w ws p) ≡ true
+    below p h =
+        (λ i. isGood (faultAt (starts-wanted w ws k st (omega arith) i) p (st .same p h i)))
+        ∙ written-good w s (st .fits) p (lt-of-lt-of-le h short)
+
+    go : Part w ws → k ≤ readPart w ws .place
+    go (broken p r bad) = subst (λ (m : ℕ). k ≤ m) (sym (broken-told w ws p r bad .1)) (sides (ltb p k) refl)
+      where
+        sides : (t : Bool) → ltb p k ≡ t → k ≤ p
+        sides true e = absurd (false≢true (sym bad ∙ below p (ltb-true p k e)))
+        sides false e = ltb-false p k e
+    go (unfinished few good) = subst (λ (m : ℕ). k ≤ m) (sym (unfinished-told w ws few good .1)) inside
+    go (whole enough good) = subst (λ (m : ℕ). k ≤ m) (sym (whole-told w ws enough good .1)) (sides k refl)
+      where
+        sides : (m : ℕ) → m ≡ k → k ≤ wanted w ws
+        sides zero e = subst (λ (m : ℕ). m ≤ wanted w ws) e (omega arith)
+        sides (suc m) e = subst (λ (x : ℕ). k ≤ x) (sym (starts-wanted w ws k st (subst (λ (x : ℕ). 0 < x) e (omega arith)))) short
+
+-- Words that are good in their places start a sample: with words of zeros after them they give it.
+module _ (w : Widths) (ws : List ℕ) where
+  abbrev filled : ℕ → List ℕ
+  filled p = take p ws ++ replicate (suc (sampleLength w true)) 256
+
+  filled-at : (p j : ℕ) → p ≤ length ws → j < p → getD (filled p) j 0 ≡ getD ws j 0
+  filled-at p j there h =
+      List·getD-append (take p ws) (replicate (suc (sampleLength w true)) 256) 0 j (rw (length-take-le p ws there) h) ∙ getD-take p ws j 0 h
+
+  header-small : (p : ℕ) → p ≤ length ws → GoodBelow w ws p → byteOf (getD (filled p) 0 0) < 32
+  header-small zero there good = lit< tt
+  header-small (suc p) there good =
+      subst (λ (x : ℕ). byteOf x < 32) (sym (filled-at (suc p) 0 there (omega arith))) (leb-false 32 (byteOf (getD ws 0 0)) (word-passed (wanted w ws) 0 (getD ws 0 0) (good 0 (omega arith)) .2))
+
+  module _ (p : ℕ) (there : p ≤ length ws) (inside : p ≤ wanted w ws) (good : GoodBelow w ws p) where
+    abbrev given : Sample
+    given = sampleOf w (map byteOf (filled p))
+
+    fits : writable w given ≡ true
+    fits = read-writable w (filled p) (header-small p there good)
+
+    abbrev size : ℕ
+    size = sampleLength w (resource (given .header))
+
+    given-header : given .header ≡ byteOf (getD (filled p) 0 0)
+    unfolding sampleOf gather
+    given-header = header-byte (filled p)
+
+    -- of the words wanted, unless there are none
+    given-size : 0 < p → size ≡ wanted w ws
+    given-size some = ap (λ (b : ℕ). sampleLength w (resource b)) (given-header ∙ ap byteOf (filled-at p 0 there some))
+
+    kind-long : (r : Bool) → sampleLength w r ≤ sampleLength w true
+    kind-long true = omega arith
+    kind-long false = omega arith
+
+    enough : size ≤ length (map byteOf (filled p))
+    enough =
+        let long : length (map byteOf (filled p)) ≡ length (take p ws) + suc (sampleLength w true) =
+        length-map (filled p) byteOf
+        ∙ length-append (take p ws) (replicate (suc (sampleLength w true)) 256)
+        ∙ ap (λ (k : ℕ). length (take p ws) + k) (length-replicate (suc (sampleLength w true)) 256) in
+        omega (arith, long, kind-long (resource (given .header)))
+
+    given-word : (j : ℕ) → j < p → getD ws j 0 ≡ getD (sampleWords w given) j 0
+    given-word j h =
+        let sized : size ≡ wanted w ws = given-size (omega arith) in
+        let near : j < size = subst (λ (n : ℕ). j < n) (sym sized) (lt-of-lt-of-le h inside) in
+        let passed = word-passed (wanted w ws) j (getD ws j 0) (good j h) in
+        let byte : getD (sampleBytes w given) j 0 ≡ byteOf (getD ws j 0) =
+        ap (λ (l : List ℕ). getD l j 0) (bytes-back w (map byteOf (filled p)) (map-below (filled p)) enough)
+        ∙ getD-take size (map byteOf (filled p)) j 0 near
+        ∙ List·getD-map byteOf (filled p) j 0
+        ∙ ap byteOf (filled-at p j there h) in
+        let mark : eqb (suc j) size ≡ marked (getD ws j 0) = ap (eqb (suc j)) sized ∙ sym (passed .3) in
+        sym (sample-word w given (sixteen-fit w given fits) j near ∙ ap₂ wordOf mark byte ∙ word-back (getD ws j 0) (passed .0) (passed .1))
+
+    given-long : (q : ℕ) → q ≡ p → p ≤ size
+    given-long zero e = omega arith
+    given-long (suc q) e = subst (λ (n : ℕ). p ≤ n) (sym (given-size (omega arith))) inside
+
+    pub good-starts : Starts w ws p
+    good-starts =
+        record {
+          sample = given;
+          fits = fits;
+          long = subst (λ (n : ℕ). p ≤ n) (sym (sample-length w given (sixteen-fit w given fits))) (given-long p refl);
+          same = given-word;
+        }
+
+-- so one starts with the words before the place
+pub place-starts : (w : Widths) (ws : List ℕ) → Starts w ws (readPart w ws .place)
+place-starts w ws = good-starts w ws (readPart w ws .place) (place-within w ws .0) (place-within w ws .1) (place-good w ws)
