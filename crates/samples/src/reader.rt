@@ -104,7 +104,8 @@ fn scan(part: &[u16], count: usize) -> Decision
     let table = parities();
     let mut i = 0;
     while i < part.len() {
-        let fault = fault_at(&table, count, i, part[i]);
+        let word = part[i];
+        let fault = fault_at(&table, count, i, word);
         if !is_good(fault) {
             return Decision {
                 place: i,
@@ -112,9 +113,10 @@ fn scan(part: &[u16], count: usize) -> Decision
             };
         }
         i += 1;
-        if i == count {
+        // A good word has the mark where it is the last.
+        if marked(word) {
             return Decision {
-                place: count,
+                place: i,
                 verdict: Verdict::Good,
             };
         }

@@ -1,5 +1,5 @@
 -- `samples::reader::scan` meets its contract: at each turn the whole part's answer and its place are those of the words from i on, and i is
--- below the words wanted; the table stays. Assumes nothing.
+-- below the words wanted; a good word has the mark where it is the last; the table stays. Assumes nothing.
 use borrow.Author.Needs.{needs}
 use Prim.Native.Nat.{suc, _-_, _<_, _≤_}
 use native.Mathlib.Omega.{arith}
@@ -7,10 +7,12 @@ use native.Mathlib.Numerals.{add-one}
 use mathlib.Core.Path.{_≡_, refl, sym, ap, _∙_}
 use mathlib.Core.Bool.{true, false}
 use lib.ListN.{length, getD, drop}
-use borrow.Author.Tests.{not-true, not-false}
+use lib.Dec.{eqb}
+use borrow.Author.Tests.{eqb-false, eqb-true, not-true, not-false}
 use Rattle.words.specs.Table.{parityTable}
 use Rattle.samples.specs.Read.{decidedAt, faultAt, isGood, scan}
 use Rattle.samples.proofs.ReadLaws.{scan-bad, scan-end, scan-last, scan-next}
+use Rattle.samples.proofs.RoundTrip.{word-passed}
 use Rattle.samples.proofs.reader.scan.Statement.{statement}
 use Rattle.samples.proofs.reader.scan.Tie as tie
 
@@ -27,14 +29,14 @@ parities-requires c κs = search needs
 loop-holds : tie.Need-loop-holds Inv-loop μ-loop
 loop-holds c = (search needs, search needs, refl, refl, c .parities .ensures)
 
+mul-word : tie.Need-mul-word Inv-loop μ-loop
+mul-word c = search needs
+
+shared-slice-read-word : tie.Need-shared-slice-read-word Inv-loop μ-loop
+shared-slice-read-word c = search needs
+
 slice-aggregate-fault-at : tie.Need-slice-aggregate-fault-at Inv-loop μ-loop
 slice-aggregate-fault-at c = search needs
-
-mul-fault-at : tie.Need-mul-fault-at Inv-loop μ-loop
-mul-fault-at c = search needs
-
-shared-slice-read-fault-at : tie.Need-shared-slice-read-fault-at Inv-loop μ-loop
-shared-slice-read-fault-at c = search needs
 
 fault-at-requires : tie.Need-fault-at-requires Inv-loop μ-loop
 fault-at-requires c κs = search needs
@@ -58,23 +60,34 @@ add-i c = search needs
 good : (c : tie.Else1 Inv-loop μ-loop) → isGood (faultAt (c .before .before .before .before .before .before .before .before .before .args .count) (c .before .before .before .before .before .before .loop .i) (getD (c .before .before .before .before .before .before .before .before .before .args .part .now) (c .before .before .before .before .before .before .loop .i) 0)) ≡ true
 good c = ap isGood (sym (c .before .before .fault-at .ensures)) ∙ sym (c .before .is-good .ensures) ∙ not-false _ (c .if1 .left)
 
-returns-2 : tie.Need-returns-2 Inv-loop μ-loop
-returns-2 c =
+marked-requires : tie.Need-marked-requires Inv-loop μ-loop
+marked-requires c κs = search needs
+
+-- so its mark says whether it is the last
+last : (c : tie.After-marked Inv-loop μ-loop) → c .marked .result ≡ eqb (suc (c .before .before .before .before .before .before .before .loop .i)) (c .before .before .before .before .before .before .before .before .before .before .args .count)
+last c =
     let l = c .before .before .before .before .before .before .before .loop in
     let a = c .before .before .before .before .before .before .before .before .before .before .args in
-    let last = scan-last (a .count) (l .i) (a .part .now) (search needs) (good (c .before)) (sym (add-one (l .i)) ∙ c .if2 .taken) in
-    (sym (l .inv .2 ∙ last .0), sym (l .inv .3 ∙ last .1))
+    c .marked .ensures ∙ word-passed (a .count) (l .i) (getD (a .part .now) (l .i) 0) (good (c .before)) .3
+
+returns-2 : tie.Need-returns-2 Inv-loop μ-loop
+returns-2 c =
+    let l = c .before .before .before .before .before .before .before .before .loop in
+    let a = c .before .before .before .before .before .before .before .before .before .before .before .args in
+    let end : suc (l .i) ≡ a .count = eqb-true (suc (l .i)) (a .count) (sym (last (c .before)) ∙ c .if2 .taken) in
+    let whole = scan-last (a .count) (l .i) (a .part .now) (search needs) (good (c .before .before)) end in
+    (sym (l .inv .2 ∙ whole .0), add-one (l .i) ∙ end ∙ sym (l .inv .3 ∙ whole .1))
 
 loop-less : tie.Need-loop-less Inv-loop μ-loop
 loop-less c = search needs
 
 loop-again : tie.Need-loop-again Inv-loop μ-loop
 loop-again c =
-    let l = c .before .before .before .before .before .before .before .loop in
-    let a = c .before .before .before .before .before .before .before .before .before .before .args in
-    let other : suc (l .i) ≡ a .count → ⊥ = λ p. c .if2 .left (add-one (l .i) ∙ p) in
-    let next = scan-next (a .count) (l .i) (a .part .now) (search needs) (good (c .before)) other in (
-      omega arith,
+    let l = c .before .before .before .before .before .before .before .before .loop in
+    let a = c .before .before .before .before .before .before .before .before .before .before .before .args in
+    let other : suc (l .i) ≡ a .count → ⊥ = eqb-false (suc (l .i)) (a .count) (sym (last (c .before)) ∙ c .if2 .left) in
+    let next = scan-next (a .count) (l .i) (a .part .now) (search needs) (good (c .before .before)) other in (
+      omega (arith, other),
       search needs,
       rw add-one (l .inv .2 ∙ next .0),
       rw add-one (l .inv .3 ∙ next .1),
@@ -97,13 +110,14 @@ scan-spec =
     μ-loop
     parities-requires
     loop-holds
+    mul-word
+    shared-slice-read-word
     slice-aggregate-fault-at
-    mul-fault-at
-    shared-slice-read-fault-at
     fault-at-requires
     is-good-requires
     returns
     add-i
+    marked-requires
     returns-2
     loop-less
     loop-again
