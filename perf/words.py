@@ -3,10 +3,10 @@
 
     perf/words.py [NAME=TREE ..]
 
-TREE is a checkout of this repository whose reader gives a place (document 02, Wish 12); without any it is the one that the script stands
-in, named "now". The program perf/words.rt.txt is built over a copy of each tree's code, and the programs run in turn, nine times each, so
-that before and after are of one run. The least time of each counts, less that of a run of a few turns, and callgrind's instructions
-likewise where valgrind is there: start-up counts in neither. The compiler is told to keep each of the four a function of its own, so that the program around them doesn't change the figures.
+TREE is a checkout of this repository; without any it is the one that the script stands in, named "now". The program perf/words.rt.txt is
+built over a copy of each tree's code, and the programs run in turn, nine times each, so that before and after are of one run. A tree whose
+reader gives no place yet is asked for the count a second time, which is the same number. The least time of each counts, less that of a
+run of a few turns, and callgrind's instructions likewise where valgrind is there: start-up counts in neither. The compiler is told to keep each of the four a function of its own, so that the program around them doesn't change the figures.
 The script ends where the programs don't give the same words and the same sum. It needs rt and gcc.
 
 These builds are NOT PROVED and are no verdict of any kind: they are made by the kit's front end and its compiler at -O3 with no proof,
@@ -60,7 +60,10 @@ def copy(tree, work):
     for source in glob.glob(f"{tree}/crates/*/src"):
         shutil.copytree(source, f"{work}/{os.path.relpath(source, tree)}")
     os.makedirs(f"{work}/crates/{CRATE}/src")
-    shutil.copy(f"{ROOT}/perf/words.rt.txt", f"{work}/crates/{CRATE}/src/main.rt")
+    with open(f"{ROOT}/perf/words.rt.txt", encoding="utf-8") as file, open(f"{tree}/crates/samples/src/reader.rt", encoding="utf-8") as reader:
+        program = file.read() if "pub place:" in reader.read() else file.read().replace("answer.place", "answer.count")
+    with open(f"{work}/crates/{CRATE}/src/main.rt", "w", encoding="utf-8") as file:
+        file.write(program)
     shutil.copy(f"{tree}/crates.txt", work)
     with open(f"{work}/crates.txt", "a+", encoding="utf-8") as file:
         file.write(f"\n{CRATE}: {STANDS_ON}\n")

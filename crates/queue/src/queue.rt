@@ -6,10 +6,11 @@ use samples::sample::field_byte;
 use samples::sample::is_resource;
 use samples::sample::word_count;
 use words::parity::parities;
+use words::size::least;
 use words::word::word_by;
 ghost use mathlib.Core.Path.{_≡_};
 ghost use mathlib.Core.Bool.{cond};
-ghost use Prim.Native.Nat.{_-_, _<_, min};
+ghost use Prim.Native.Nat.{_-_, _<_};
 ghost use lib.ListN.{getD, length, set, take};
 ghost use Rattle.queue.specs.Queue.{advanced, anyResource, busy, emptyQueue, firstCount, full, heldSample, insideQueue, pushed, sendBuffer, sendMany, sendOne, shifted, zeroHeld};
 ghost use Rattle.queue.specs.Table.{nextWordBy, sendOneBy};
@@ -246,12 +247,6 @@ fn one_less(n: usize) -> usize
     ensures { λ r. ⌜ r ≡ n - 1 ⌝ }
 {
     if n == 0 { 0 } else { n - 1 }
-}
-
-fn least(a: usize, b: usize) -> usize
-    ensures { λ r. ⌜ r ≡ min a b ⌝ }
-{
-    if a < b { a } else { b }
 }
 
 // The byte at a place of a held sample.

@@ -5,61 +5,54 @@ use Prim.Native.Nat.{ℕ, zero, suc, _+_, _≤_, _<_}
 use native.Mathlib.Nat.{mod-eq-of-lt, lt-trans, lt-of-lt-of-le}
 use native.Mathlib.Omega.{arith}
 use mathlib.Core.Path.{_≡_, refl, sym, ap, ap₂, _∙_, subst}
-use mathlib.Core.Bool.{Bool, true, false, _&&_, false≢true}
+use mathlib.Core.Bool.{Bool, true, false, cond, not, _&&_, false≢true}
 use mathlib.Core.List.{List, _++_, map}
 use lib.Dec.{eqb, leb, ltb, lit<}
 use lib.ListN.{getD, length, replicate, take, length-append, length-map, length-replicate, List·getD-append, List·getD-map}
 use lib.Seq.{getD-take, length-take-le}
 use borrow.Author.Tests.{leb-false, lt-leb, ltb-false, ltb-true}
-use Rattle.words.specs.Word.{byteOf, marked, wordOf}
+use Rattle.words.specs.Word.{byteOf, marked, oddOnes, tooLarge, wordOf}
 use Rattle.words.proofs.WordLaws.{word-back, word-byte}
 use Rattle.samples.specs.Layout.{Widths, resource, sampleBytes, sampleLength, sampleWords}
 use Rattle.samples.specs.Write.{writable}
-use Rattle.samples.specs.Read.{faultAt, gather, isGood, readPart, sampleOf, verdictNumber, wanted}
+use Rattle.samples.specs.Read.{faultAt, isGood, readPart, sampleOf, verdictNumber, wanted}
 use Rattle.samples.specs.declared.sample.Sample.{Sample}
-use Rattle.samples.proofs.Numbers.{GoodBelow, Part, Reached, broken, broken-told, faultIn, one-of-three, reads-20, unfinished, unfinished-told, whole, whole-told}
-use Rattle.samples.proofs.ReadLaws.{header-byte, map-below}
+use Rattle.samples.proofs.Numbers.{GoodBelow, Part, Reached, broken, broken-told, fault-numbers, faultIn, one-of-three, reads-20, unfinished, unfinished-told, whole, whole-told}
+use Rattle.samples.proofs.ReadLaws.{map-below}
 use Rattle.samples.proofs.RoundTrip.{after-first, bytes-back, fault-word, header-fit, sixteen-fit, word-passed}
 use Rattle.samples.proofs.SampleLaws.{bytes-below, sample-length, sample-word}
-use Rattle.samples.proofs.Theorems.{header-first, read-writable}
+use Rattle.samples.proofs.Theorems.{header-first, read-size, read-writable}
 
 -- ---- by the words
 
 module _ (w : Widths) (ws : List ℕ) where
+  -- what holds of the place in each of the three cases
+  at-place : (P : ℕ → Type 0) → ((p : ℕ) → Reached w ws p → isGood (faultIn w ws p) ≡ false → P p) → (length ws < wanted w ws → GoodBelow w ws (length ws) → P (length ws)) → (wanted w ws ≤ length ws → GoodBelow w ws (wanted w ws) → P (wanted w ws)) → P (readPart w ws .place)
+  at-place P b u h = go (one-of-three w ws)
+    where
+      go : Part w ws → P (readPart w ws .place)
+      go (broken p r bad) = subst P (sym (broken-told w ws p r bad .1)) (b p r bad)
+      go (unfinished few good) = subst P (sym (unfinished-told w ws few good .1)) (u few good)
+      go (whole enough good) = subst P (sym (whole-told w ws enough good .1)) (h enough good)
+
   -- every word before the place is good in its place
   pub place-good : GoodBelow w ws (readPart w ws .place)
-  place-good = go (one-of-three w ws)
-    where
-      at : {p : ℕ} → readPart w ws .place ≡ p → GoodBelow w ws p → GoodBelow w ws (readPart w ws .place)
-      at e = subst (GoodBelow w ws) (sym e)
+  place-good = at-place (GoodBelow w ws) (λ p r bad. r .before) (λ few good. good) (λ enough good. good)
 
-      go : Part w ws → GoodBelow w ws (readPart w ws .place)
-      go (broken p r bad) = at (broken-told w ws p r bad .1) (r .before)
-      go (unfinished few good) = at (unfinished-told w ws few good .1) good
-      go (whole enough good) = at (whole-told w ws enough good .1) good
-
-  -- it is one of the part's, or its end
+  -- there are as many words, and no more are wanted
   pub place-within : (readPart w ws .place ≤ length ws) × (readPart w ws .place ≤ wanted w ws)
-  place-within = go (one-of-three w ws)
-    where
-      at : {p : ℕ} → readPart w ws .place ≡ p → (p ≤ length ws) × (p ≤ wanted w ws) → (readPart w ws .place ≤ length ws) × (readPart w ws .place ≤ wanted w ws)
-      at e = subst (λ (p : ℕ). (p ≤ length ws) × (p ≤ wanted w ws)) (sym e)
-
-      go : Part w ws → (readPart w ws .place ≤ length ws) × (readPart w ws .place ≤ wanted w ws)
-      go (broken p r bad) = at (broken-told w ws p r bad .1) (omega (arith, r .there), omega (arith, r .inside))
-      go (unfinished few good) = at (unfinished-told w ws few good .1) (omega arith, omega arith)
-      go (whole enough good) = at (whole-told w ws enough good .1) (enough, omega arith)
+  place-within =
+      at-place (λ (p : ℕ). (p ≤ length ws) × (p ≤ wanted w ws)) (λ p r bad. (omega (arith, r .there), omega (arith, r .inside))) (λ few good. (omega arith, omega arith)) (λ enough good. (enough, omega arith))
 
   -- "with 20, the number of good words": all of the part
   pub place-20 : readPart w ws .number ≡ 20 → readPart w ws .place ≡ length ws
   place-20 e = let few = reads-20 w ws .0 e in unfinished-told w ws (few .0) (few .1) .1
 
-  -- "With 21 to 24 .. the place of the deciding word": the place of a bad word with none before it is that word's
+  -- "With 21 to 24 .. the place of the deciding word": a bad word with none before it stands there and nowhere else
   pub place-only : (p : ℕ) → Reached w ws p → isGood (faultIn w ws p) ≡ false → readPart w ws .place ≡ p
   place-only p r bad = broken-told w ws p r bad .1
 
-  -- and with 21 to 24 there is one: the word at the place has the fault of that number (`fault-numbers` says which, and that it has none before
-  -- it in the order), and no word before it has any
+  -- and with 21 to 24 one does: no word before the place is bad, and the word there has the fault of that number
   pub place-fault : 21 ≤ readPart w ws .number → Reached w ws (readPart w ws .place) × (verdictNumber (faultIn w ws (readPart w ws .place)) ≡ readPart w ws .number)
   place-fault large = go (one-of-three w ws)
     where
@@ -73,10 +66,19 @@ module _ (w : Widths) (ws : List ℕ) where
       go (unfinished few good) = absurd (few-numbers 20 (unfinished-told w ws few good .0) (lit< tt))
       go (whole enough good) = absurd (few-numbers 0 (whole-told w ws enough good .0) (lit< tt))
 
+  -- so its tests are those of the number: above 1023; else parity; else, of the first, header bits 5 to 7; else the end mark missing on the
+  -- last word or set on another
+  pub place-tests : 21 ≤ readPart w ws .number → let x = getD ws (readPart w ws .place) 0 in (eqb (readPart w ws .number) 21 ≡ tooLarge x) × (eqb (readPart w ws .number) 22 ≡ (not (tooLarge x) && not (oddOnes x))) × (eqb (readPart w ws .number) 23 ≡ (not (tooLarge x) && (oddOnes x && (eqb (readPart w ws .place) 0 && leb 32 (byteOf x))))) × (eqb (readPart w ws .number) 24 ≡ (not (tooLarge x) && (oddOnes x && (not (eqb (readPart w ws .place) 0 && leb 32 (byteOf x)) && cond (eqb (suc (readPart w ws .place)) (wanted w ws)) (not (marked x)) (marked x)))))
+  place-tests large =
+      let tests = fault-numbers (wanted w ws) (readPart w ws .place) (getD ws (readPart w ws .place) 0) in
+      let is : (k : ℕ) → eqb (readPart w ws .number) k ≡ eqb (verdictNumber (faultIn w ws (readPart w ws .place))) k = λ k. ap (λ (m : ℕ). eqb m k) (sym (place-fault large .1)) in
+      (is 21 ∙ tests .1, is 22 ∙ tests .2, is 23 ∙ tests .3, is 24 ∙ tests .4)
+
 -- ---- by the writer
 
--- the first k words of the part are those of a sample that the writer takes
+-- the part has k words at its start that are the first k of a sample which the writer takes
 pub record Starts (w : Widths) (ws : List ℕ) (k : ℕ) : Type 0 where
+  pub there : k ≤ length ws
   pub sample : Sample
   pub fits : writable w sample ≡ true
   pub long : k ≤ length (sampleWords w sample)
@@ -108,8 +110,8 @@ starts-wanted : (w : Widths) (ws : List ℕ) (k : ℕ) (st : Starts w ws k) → 
 starts-wanted w ws k st some = ap (λ (b : ℕ). sampleLength w (resource b)) (ap byteOf (st .same 0 some) ∙ first-header w (st .sample) (st .fits))
 
 -- no sample that the writer takes starts with more words of the part
-pub place-most : (w : Widths) (ws : List ℕ) (k : ℕ) → k ≤ length ws → Starts w ws k → k ≤ readPart w ws .place
-place-most w ws k inside st = go (one-of-three w ws)
+pub place-most : (w : Widths) (ws : List ℕ) (k : ℕ) → Starts w ws k → k ≤ readPart w ws .place
+place-most w ws k st = at-place w ws (λ (m : ℕ). k ≤ m) (λ p r bad. decides p bad (ltb p k) refl) (λ few good. st .there) (λ enough good. all k refl)
   where
     s : Sample
     s = st .sample
@@ -122,18 +124,13 @@ place-most w ws k inside st = go (one-of-three w ws)
         (λ i. isGood (faultAt (starts-wanted w ws k st (omega arith) i) p (st .same p h i)))
         ∙ written-good w s (st .fits) p (lt-of-lt-of-le h short)
 
-    go : Part w ws → k ≤ readPart w ws .place
-    go (broken p r bad) = subst (λ (m : ℕ). k ≤ m) (sym (broken-told w ws p r bad .1)) (sides (ltb p k) refl)
-      where
-        sides : (t : Bool) → ltb p k ≡ t → k ≤ p
-        sides true e = absurd (false≢true (sym bad ∙ below p (ltb-true p k e)))
-        sides false e = ltb-false p k e
-    go (unfinished few good) = subst (λ (m : ℕ). k ≤ m) (sym (unfinished-told w ws few good .1)) inside
-    go (whole enough good) = subst (λ (m : ℕ). k ≤ m) (sym (whole-told w ws enough good .1)) (sides k refl)
-      where
-        sides : (m : ℕ) → m ≡ k → k ≤ wanted w ws
-        sides zero e = subst (λ (m : ℕ). m ≤ wanted w ws) e (omega arith)
-        sides (suc m) e = subst (λ (x : ℕ). k ≤ x) (sym (starts-wanted w ws k st (subst (λ (x : ℕ). 0 < x) e (omega arith)))) short
+    decides : (p : ℕ) → isGood (faultIn w ws p) ≡ false → (t : Bool) → ltb p k ≡ t → k ≤ p
+    decides p bad true e = absurd (false≢true (sym bad ∙ below p (ltb-true p k e)))
+    decides p bad false e = ltb-false p k e
+
+    all : (m : ℕ) → m ≡ k → k ≤ wanted w ws
+    all zero e = omega arith
+    all (suc m) e = subst (λ (x : ℕ). k ≤ x) (sym (starts-wanted w ws k st (omega arith))) short
 
 -- Words that are good in their places start a sample: with words of zeros after them they give it.
 module _ (w : Widths) (ws : List ℕ) where
@@ -159,13 +156,9 @@ module _ (w : Widths) (ws : List ℕ) where
     abbrev size : ℕ
     size = sampleLength w (resource (given .header))
 
-    given-header : given .header ≡ byteOf (getD (filled p) 0 0)
-    unfolding sampleOf gather
-    given-header = header-byte (filled p)
-
     -- of the words wanted, unless there are none
     given-size : 0 < p → size ≡ wanted w ws
-    given-size some = ap (λ (b : ℕ). sampleLength w (resource b)) (given-header ∙ ap byteOf (filled-at p 0 there some))
+    given-size some = read-size w (filled p) ∙ ap (λ (x : ℕ). sampleLength w (resource (byteOf x))) (filled-at p 0 there some)
 
     kind-long : (r : Bool) → sampleLength w r ≤ sampleLength w true
     kind-long true = omega arith
@@ -199,6 +192,7 @@ module _ (w : Widths) (ws : List ℕ) where
     pub good-starts : Starts w ws p
     good-starts =
         record {
+          there = there;
           sample = given;
           fits = fits;
           long = subst (λ (n : ℕ). p ≤ n) (sym (sample-length w given (sixteen-fit w given fits))) (given-long p refl);

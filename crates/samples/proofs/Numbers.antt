@@ -1,7 +1,7 @@
 -- Document 01's numbers of the writer's and the reader's answers, each exactly in its case. 17, 18 and, of a word, 21 to 24 are equations
 -- between tests, so both ways. A part of a stream is in one of three cases, with three different answers: the first bad word decides; the
 -- words are good but too few, 20; as many as are wanted are good, a sample, whatever comes after. So each number of a part is told both
--- ways. By cases on the tests, and by induction on the words. Assumes nothing.
+-- ways, and with each case document 02's place. By cases on the tests, and by induction on the words. Assumes nothing.
 use Prim.Native.Nat.{ℕ, zero, suc, _+_, _-_, _≤_, _<_}
 use native.Mathlib.Nat.{not-suc-le-zero, zero-add}
 use native.Mathlib.Omega.{arith}
@@ -61,32 +61,19 @@ written-one a b e = sym (back a) ∙ ap of e ∙ back b
     back Unfit = refl
     back Short = refl
 
--- ---- the reader: the number of the scan, and within a word the order 21, 22, 23, 24
+-- ---- the reader: number and place of the scan, and within a word the order 21, 22, 23, 24
 
-pub reads-number : (w : Widths) (ws : List ℕ) → readPart w ws .number ≡ verdictNumber (scan (wanted w ws) 0 ws)
+reads : (w : Widths) (ws : List ℕ) → (readPart w ws .number ≡ verdictNumber (scan (wanted w ws) 0 ws)) × (readPart w ws .place ≡ decidedAt (wanted w ws) 0 ws)
 unfolding readPart
-reads-number w ws = go (scan (wanted w ws) 0 ws)
+reads w ws = go (scan (wanted w ws) 0 ws) (sampleOf w (map byteOf ws)) (wanted w ws) (decidedAt (wanted w ws) 0 ws)
   where
-    go : (v : Verdict) → foundBy v (sampleOf w (map byteOf ws)) (wanted w ws) (decidedAt (wanted w ws) 0 ws) .number ≡ verdictNumber v
-    go Good = refl
-    go Unfinished = refl
-    go TooLarge = refl
-    go Parity = refl
-    go Header = refl
-    go Mark = refl
-
--- and where it was decided
-pub reads-place : (w : Widths) (ws : List ℕ) → readPart w ws .place ≡ decidedAt (wanted w ws) 0 ws
-unfolding readPart
-reads-place w ws = go (scan (wanted w ws) 0 ws)
-  where
-    go : (v : Verdict) → foundBy v (sampleOf w (map byteOf ws)) (wanted w ws) (decidedAt (wanted w ws) 0 ws) .place ≡ decidedAt (wanted w ws) 0 ws
-    go Good = refl
-    go Unfinished = refl
-    go TooLarge = refl
-    go Parity = refl
-    go Header = refl
-    go Mark = refl
+    go : (v : Verdict) (s : Sample) (n p : ℕ) → (foundBy v s n p .number ≡ verdictNumber v) × (foundBy v s n p .place ≡ p)
+    go Good s n p = (refl, refl)
+    go Unfinished s n p = (refl, refl)
+    go TooLarge s n p = (refl, refl)
+    go Parity s n p = (refl, refl)
+    go Header s n p = (refl, refl)
+    go Mark s n p = (refl, refl)
 
 -- two readings that are told alike are equal, so the reader's contract leaves one
 pub reading-one : (a b : Reading) → found a ≡ found b → a ≡ b
@@ -186,7 +173,7 @@ module _ (w : Widths) (ws : List ℕ) where
 
   -- what the scan gives, and where, is what the reader gives
   told : (v : Verdict) (p : ℕ) → scan (wanted w ws) 0 ws ≡ v → decidedAt (wanted w ws) 0 ws ≡ p → (readPart w ws .number ≡ verdictNumber v) × (readPart w ws .place ≡ p)
-  told v p a b = (reads-number w ws ∙ ap verdictNumber a, reads-place w ws ∙ b)
+  told v p a b = (reads w ws .0 ∙ ap verdictNumber a, reads w ws .1 ∙ b)
 
   -- "The first bad word decides", whatever comes after it; Wish 12: "the place of the deciding word"
   pub broken-told : (p : ℕ) → Reached w ws p → isGood (faultIn w ws p) ≡ false → (readPart w ws .number ≡ verdictNumber (faultIn w ws p)) × (readPart w ws .place ≡ p)
@@ -202,7 +189,7 @@ module _ (w : Widths) (ws : List ℕ) where
       let end = scan-end (wanted w ws) (length ws) ws (omega arith) in
       told Unfinished (length ws) (past .0 ∙ end .0) (past .1 ∙ end .1)
 
-  -- as many good words as are wanted are a sample
+  -- as many good words as are wanted are a sample; the place is after them
   pub whole-told : wanted w ws ≤ length ws → GoodBelow w ws (wanted w ws) → (readPart w ws .number ≡ 0) × (readPart w ws .place ≡ wanted w ws)
   whole-told enough good =
       let p : ℕ = wanted w ws - 1 in
@@ -210,6 +197,7 @@ module _ (w : Widths) (ws : List ℕ) where
       let last = scan-last (wanted w ws) p ws (omega arith) (good p (omega arith)) (omega arith) in
       told Good (wanted w ws) (past .0 ∙ last .0) (past .1 ∙ last .1)
 
+  -- the number alone
   pub first-bad-decides : (p : ℕ) → Reached w ws p → isGood (faultIn w ws p) ≡ false → readPart w ws .number ≡ verdictNumber (faultIn w ws p)
   first-bad-decides p r bad = broken-told p r bad .0
 

@@ -6,7 +6,7 @@ use native.Mathlib.Omega.{arith}
 use mathlib.Core.Path.{_≡_, refl, sym, ap, ap₂, _∙_}
 use mathlib.Core.Bool.{Bool, true, false, cond, not, _&&_, false≢true}
 use mathlib.Core.List.{List, [], _∷_, map}
-use lib.Dec.{eqb, leb}
+use lib.Dec.{eqb, leb, eqb·suc-zero}
 use lib.ListN.{length, getD, take, drop, replicate, drop-of-length-le, length-take, List·getD-map}
 use lib.Seq.{drop-cons, drop-drop}
 use borrow.Author.Tests.{eq-eqb, eqb-true, ne-eqb}
@@ -27,6 +27,14 @@ faultBy large odd header last mark =
 pub fault-by : (n place w : ℕ) {large odd header last mark : Bool} → tooLarge w ≡ large → oddOnes w ≡ odd → (eqb place 0 && leb 32 (byteOf w)) ≡ header → eqb (suc place) n ≡ last → marked w ≡ mark → faultAt n place w ≡ faultBy large odd header last mark
 unfolding faultAt
 fault-by n place w a b c d e = λ i. faultBy (a i) (b i) (c i) (d i) (e i)
+
+-- of how many words a sample has, only whether this one is the last counts
+pub ends : (last : Bool) (place : ℕ) → eqb (suc place) (cond last (suc place) 0) ≡ last
+ends true place = eq-eqb (suc place) (suc place) refl
+ends false place = eqb·suc-zero place
+
+pub fault-ends : (n place w : ℕ) {last : Bool} → eqb (suc place) n ≡ last → faultAt (cond last (suc place) 0) place w ≡ faultAt n place w
+fault-ends n place w {last} e = fault-by (cond last (suc place) 0) place w refl refl refl (ends last place) refl ∙ sym (fault-by n place w refl refl refl e refl)
 
 -- one word of the scan: a good word leaves it to the rest, and a fault decides
 pub scan-word : (n i w : ℕ) (ws : List ℕ) {good : Bool} → isGood (faultAt n i w) ≡ good → scan n i (w ∷ ws) ≡ cond good (cond (eqb (suc i) n) Good (scan n (suc i) ws)) (faultAt n i w)
@@ -49,17 +57,16 @@ module _ (n i : ℕ) (ws : List ℕ) (there : i < length ws) where
   pub scan-bad : isGood (faultAt n i (getD ws i 0)) ≡ false → (scan n i (drop i ws) ≡ faultAt n i (getD ws i 0)) × (decidedAt n i (drop i ws) ≡ i)
   scan-bad bad = scan-here bad
 
-  -- so does the last word that is wanted
-  pub scan-last : isGood (faultAt n i (getD ws i 0)) ≡ true → suc i ≡ n → (scan n i (drop i ws) ≡ Good) × (decidedAt n i (drop i ws) ≡ n)
-  scan-last good last =
-      let q : eqb (suc i) n ≡ true = eq-eqb (suc i) n last in
+  -- a good word is the last that is wanted, or leaves it to the words after it
+  scan-good : {last : Bool} → isGood (faultAt n i (getD ws i 0)) ≡ true → eqb (suc i) n ≡ last → (scan n i (drop i ws) ≡ cond last Good (scan n (suc i) (drop (suc i) ws))) × (decidedAt n i (drop i ws) ≡ cond last n (decidedAt n (suc i) (drop (suc i) ws)))
+  scan-good good q =
       (scan-here good .0 ∙ ap (λ (t : Bool). cond t Good (scan n (suc i) (drop (suc i) ws))) q, scan-here good .1 ∙ ap (λ (t : Bool). cond t n (decidedAt n (suc i) (drop (suc i) ws))) q)
 
-  -- another good word leaves it to the words after it
+  pub scan-last : isGood (faultAt n i (getD ws i 0)) ≡ true → suc i ≡ n → (scan n i (drop i ws) ≡ Good) × (decidedAt n i (drop i ws) ≡ n)
+  scan-last good last = scan-good good (eq-eqb (suc i) n last)
+
   pub scan-next : isGood (faultAt n i (getD ws i 0)) ≡ true → (suc i ≡ n → ⊥) → (scan n i (drop i ws) ≡ scan n (suc i) (drop (suc i) ws)) × (decidedAt n i (drop i ws) ≡ decidedAt n (suc i) (drop (suc i) ws))
-  scan-next good more =
-      let q : eqb (suc i) n ≡ false = ne-eqb (suc i) n more in
-      (scan-here good .0 ∙ ap (λ (t : Bool). cond t Good (scan n (suc i) (drop (suc i) ws))) q, scan-here good .1 ∙ ap (λ (t : Bool). cond t n (decidedAt n (suc i) (drop (suc i) ws))) q)
+  scan-next good more = scan-good good (ne-eqb (suc i) n more)
 
 -- and past the part's end there is none
 pub scan-end : (n i : ℕ) (ws : List ℕ) → length ws ≤ i → (scan n i (drop i ws) ≡ Unfinished) × (decidedAt n i (drop i ws) ≡ i)
@@ -110,27 +117,18 @@ is-good Parity e = absurd (false≢true e)
 is-good Header e = absurd (false≢true e)
 is-good Mark e = absurd (false≢true e)
 
--- a good scan has seen all the words that were wanted
-pub scan-enough : (n i : ℕ) (ws : List ℕ) → isGood (scan n i ws) ≡ true → n ≤ i + length ws
+-- a good scan has seen all the words that were wanted, and is decided after them
+pub scan-whole : (n i : ℕ) (ws : List ℕ) → isGood (scan n i ws) ≡ true → (n ≤ i + length ws) × (decidedAt n i ws ≡ n)
 unfolding scan
-scan-enough n i [] g = absurd (false≢true g)
-scan-enough n i (w ∷ ws) g = go (eqb (suc i) n) refl (scan-first (faultAt n i w) (eqb (suc i) n) (scan n (suc i) ws) g .1) (scan-enough n (suc i) ws)
-  where
-    go : (t : Bool) → eqb (suc i) n ≡ t → (eqb (suc i) n ≡ false → isGood (scan n (suc i) ws) ≡ true) → (isGood (scan n (suc i) ws) ≡ true → n ≤ suc i + length ws) → n ≤ i + suc (length ws)
-    go true e more ih = omega (arith, eqb-true (suc i) n e)
-    go false e more ih = omega (arith, ih (more e))
-
--- and is decided after them
-pub good-decided : (n i : ℕ) (ws : List ℕ) → isGood (scan n i ws) ≡ true → decidedAt n i ws ≡ n
-unfolding scan
-good-decided n i [] g = absurd (false≢true g)
-good-decided n i (w ∷ ws) g =
+scan-whole n i [] g = absurd (false≢true g)
+scan-whole n i (w ∷ ws) g =
     let first = scan-first (faultAt n i w) (eqb (suc i) n) (scan n (suc i) ws) g in
-    decided-word n i w ws (first .0) ∙ go (eqb (suc i) n) (first .1) (good-decided n (suc i) ws)
+    let here = go (eqb (suc i) n) refl (first .1) (scan-whole n (suc i) ws) in
+    (here .0, decided-word n i w ws (first .0) ∙ here .1)
   where
-    go : (t : Bool) → (t ≡ false → isGood (scan n (suc i) ws) ≡ true) → (isGood (scan n (suc i) ws) ≡ true → decidedAt n (suc i) ws ≡ n) → cond t n (decidedAt n (suc i) ws) ≡ n
-    go true more ih = refl
-    go false more ih = ih (more refl)
+    go : (t : Bool) → eqb (suc i) n ≡ t → (t ≡ false → isGood (scan n (suc i) ws) ≡ true) → (isGood (scan n (suc i) ws) ≡ true → (n ≤ suc i + length ws) × (decidedAt n (suc i) ws ≡ n)) → (n ≤ i + suc (length ws)) × (cond (eqb (suc i) n) n (decidedAt n (suc i) ws) ≡ n)
+    go true e more ih = (omega (arith, eqb-true (suc i) n e), ap (λ (t : Bool). cond t n (decidedAt n (suc i) ws)) e)
+    go false e more ih = let after = ih (more refl) in (omega (arith, after .0), ap (λ (t : Bool). cond t n (decidedAt n (suc i) ws)) e ∙ after .1)
 
 -- the header is the first word's byte
 pub header-byte : (ws : List ℕ) → number (take 1 (map byteOf ws)) ≡ byteOf (getD ws 0 0)

@@ -20,7 +20,7 @@ use Rattle.samples.specs.declared.sample.Sample.{Sample}
 use Rattle.samples.specs.declared.reader.Verdict.{Verdict}
 use Rattle.samples.specs.declared.reader.Verdict.the-variants.{Good, Unfinished, TooLarge, Parity, Header, Mark}
 use Rattle.samples.proofs.Gather.{within-gather}
-use Rattle.samples.proofs.ReadLaws.{header-byte, map-below, drop-below, good-decided, read-good, scan-enough}
+use Rattle.samples.proofs.ReadLaws.{header-byte, map-below, drop-below, read-good, scan-whole}
 use Rattle.samples.proofs.RoundTrip.{bytes-back, first-passed, header-fit, sample-back, scan-words, scan-written, sixteen-fit}
 use Rattle.samples.proofs.SampleLaws.{bytes-below, bytes-length, sample-length}
 use Rattle.samples.proofs.WriteLaws.{wrote, wrote-short, wrote-unfit}
@@ -61,7 +61,7 @@ read-written w s rest fit =
     (ap (λ (h : ℕ). sampleLength w (resource h)) (sym first))
     good
     given
-    (sym (good-decided n 0 (wordsOf (sampleBytes w s) ++ rest) good)))
+    (sym (scan-whole n 0 (wordsOf (sampleBytes w s) ++ rest) good .1)))
 
 map-take : (n : ℕ) (ws : List ℕ) → map byteOf (take n ws) ≡ take n (map byteOf ws)
 map-take zero ws = refl
@@ -99,6 +99,11 @@ read-writable w ws few =
     let zeros : (resource h || allZero (cond (resource h) cs (replicate 16 0))) ≡ true = zeros-kind (resource h) cs in
     λ i. fields i && (counters i && (small i && zeros i))
 
+-- its header is the first word's byte, so it has as many words as are wanted
+pub read-size : (w : Widths) (ws : List ℕ) → sampleLength w (resource (sampleOf w (map byteOf ws) .header)) ≡ wanted w ws
+unfolding sampleOf gather
+read-size w ws = ap (λ (h : ℕ). sampleLength w (resource h)) (header-byte ws)
+
 -- what an accepting reader has seen: a good scan, and its whole answer
 module _ (w : Widths) (ws : List ℕ) (taken : readPart w ws .number ≡ 0) where
   accepted-scan : isGood (scan (wanted w ws) 0 ws) ≡ true
@@ -115,18 +120,10 @@ module _ (w : Widths) (ws : List ℕ) (taken : readPart w ws .number ≡ 0) wher
 
   accepted : readPart w ws ≡ foundBy Good (sampleOf w (map byteOf ws)) (wanted w ws) (wanted w ws)
   accepted =
-      sym (read-good w ws (wanted w ws) (sampleOf w (map byteOf ws)) (wanted w ws) refl accepted-scan refl (sym (good-decided (wanted w ws) 0 ws accepted-scan)))
-
-  -- the header read is the first word's byte, so the words wanted are the sample's
-  read-header : sampleOf w (map byteOf ws) .header ≡ byteOf (getD ws 0 0)
-  unfolding sampleOf gather
-  read-header = header-byte ws
+      sym (read-good w ws (wanted w ws) (sampleOf w (map byteOf ws)) (wanted w ws) refl accepted-scan refl (sym (scan-whole (wanted w ws) 0 ws accepted-scan .1)))
 
   enough : wanted w ws ≤ length ws
-  enough = rw zero-add at (scan-enough (wanted w ws) 0 ws accepted-scan)
-
-  size : sampleLength w (resource (sampleOf w (map byteOf ws) .header)) ≡ wanted w ws
-  size = ap (λ (h : ℕ). sampleLength w (resource h)) read-header
+  enough = rw zero-add at (scan-whole (wanted w ws) 0 ws accepted-scan .0)
 
   given-words : take (wanted w ws) ws ≡ sampleWords w (sampleOf w (map byteOf ws))
   unfolding sampleWords
@@ -137,8 +134,8 @@ module _ (w : Widths) (ws : List ℕ) (taken : readPart w ws .number ≡ 0) wher
       let whole : wordsOf (map byteOf (take n ws)) ≡ take n ws =
       subst (λ (m : ℕ). wordsOf (map byteOf (take m ws)) ≡ take m ws) one (scan-words n 0 (n - 1) ws (omega arith) accepted-scan) in
       let long : sampleLength w (resource (sampleOf w bs .header)) ≤ length bs =
-      subst (λ (m : ℕ). m ≤ length bs) (sym size) (subst (λ (m : ℕ). n ≤ m) (sym (length-map ws byteOf)) enough) in
-      let bytes : sampleBytes w (sampleOf w bs) ≡ take n bs = bytes-back w bs (map-below ws) long ∙ ap (λ (m : ℕ). take m bs) size in
+      subst (λ (m : ℕ). m ≤ length bs) (sym (read-size w ws)) (subst (λ (m : ℕ). n ≤ m) (sym (length-map ws byteOf)) enough) in
+      let bytes : sampleBytes w (sampleOf w bs) ≡ take n bs = bytes-back w bs (map-below ws) long ∙ ap (λ (m : ℕ). take m bs) (read-size w ws) in
       sym whole ∙ ap wordsOf (map-take n ws ∙ sym bytes)
 
   given-writable : writable w (sampleOf w (map byteOf ws)) ≡ true
@@ -149,9 +146,9 @@ module _ (w : Widths) (ws : List ℕ) (taken : readPart w ws .number ≡ 0) wher
   accepted-words = subst (λ (r : Found). take (r .count) ws ≡ sampleWords w (r .sample)) (sym accepted) given-words
 
   pub accepted-count : (readPart w ws .count ≡ sampleLength w (resource (readPart w ws .sample .header))) × (readPart w ws .count ≤ length ws)
-  accepted-count = subst (λ (r : Found). (r .count ≡ sampleLength w (resource (r .sample .header))) × (r .count ≤ length ws)) (sym accepted) (sym size, enough)
+  accepted-count = subst (λ (r : Found). (r .count ≡ sampleLength w (resource (r .sample .header))) × (r .count ≤ length ws)) (sym accepted) (sym (read-size w ws), enough)
 
-  -- document 02, Wish 12: with a sample the place is the number of words it took
+  -- with a sample the place, which document 02's Wish 12 leaves open, is the number of words it took
   pub accepted-place : readPart w ws .place ≡ readPart w ws .count
   accepted-place = ap (λ (r : Found). r .place) accepted ∙ sym (ap (λ (r : Found). r .count) accepted)
 

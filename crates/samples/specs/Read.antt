@@ -39,7 +39,7 @@ scan n place [] = Unfinished
 scan n place (w ∷ ws) = orElse (faultAt n place w) (cond (eqb (suc place) n) Good (scan n (suc place) ws))
 
 -- Wish 12: "With 21 to 24 .. the place of the deciding word, counted from 0 ..; with 20, the number of good words": the first place, from
--- this one on, with a bad word or none, or after the n that are wanted
+-- this one on, with a bad word or none; or after the n that are wanted: a sample's place, which Wish 12 leaves open, is the words it took
 unfoldable pub decidedAt : ℕ → ℕ → List ℕ → ℕ
 decidedAt n place [] = place
 decidedAt n place (w ∷ ws) = cond (isGood (faultAt n place w)) (cond (eqb (suc place) n) n (decidedAt n (suc place) ws)) place
@@ -61,7 +61,7 @@ sampleOf w bs =
       counters = cond (resource (getD f 0 0)) (gather counterWidths (drop (total (fieldWidths w)) bs)) (replicate 16 0);
     }
 
--- a reading by document 01: "the first sample and how many words it took, or" a number
+-- a reading: "the first sample and how many words it took, or" a number, and Wish 12's place
 pub record Found : Type 0 where
   pub sample : Sample
   pub count : ℕ

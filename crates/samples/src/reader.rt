@@ -7,15 +7,16 @@ use super::sample::Sample;
 use super::sample::is_resource;
 use super::sample::word_count;
 use words::parity::parities;
+use words::size::least;
 use words::word::byte;
 use words::word::marked;
 use words::word::odd_ones_by;
 use words::word::too_large;
 ghost use mathlib.Core.Path.{_≡_};
-ghost use mathlib.Core.Bool.{_&&_};
+ghost use mathlib.Core.Bool.{_&&_, cond};
 ghost use mathlib.Core.List.{map};
 ghost use lib.Dec.{eqb, leb};
-ghost use Prim.Native.Nat.{_+_, _<_, _≤_};
+ghost use Prim.Native.Nat.{suc, _+_, _<_, _≤_};
 ghost use lib.ListN.{length, take, drop};
 ghost use Rattle.words.specs.Bytes.{number};
 ghost use Rattle.words.specs.Table.{parityTable};
@@ -42,7 +43,7 @@ pub struct Reading {
     pub verdict: Verdict,
 }
 
-// What decides, and at which place.
+// What decides, and how many good words stand before it.
 struct Decision {
     place: usize,
     verdict: Verdict,
@@ -53,7 +54,7 @@ pub fn read(edition: Edition, part: &[u16]) -> Reading
     ensures { λ r. ⌜ found r ≡ readPart (widths edition) (now (part .entry)) ⌝ }
 {
     if part.len() == 0 {
-        return refused(0, Verdict::Unfinished);
+        return refused(Verdict::Unfinished, 0);
     }
     let count = word_count(edition, byte(part[0]) as u32);
     let decision = scan(part, count);
@@ -68,7 +69,7 @@ pub fn read(edition: Edition, part: &[u16]) -> Reading
             verdict: Verdict::Good,
         };
     }
-    refused(place, verdict)
+    refused(verdict, place)
 }
 
 fn is_good(verdict: Verdict) -> bool
@@ -84,8 +85,8 @@ fn is_good(verdict: Verdict) -> bool
     }
 }
 
-// Nothing read, where and why.
-fn refused(place: usize, verdict: Verdict) -> Reading
+// Nothing read, why and where.
+fn refused(verdict: Verdict, place: usize) -> Reading
     ensures { λ r. ⌜ r ≡ refusal verdict place ⌝ }
 {
     Reading {
@@ -102,10 +103,11 @@ fn scan(part: &[u16], count: usize) -> Decision
     ensures { λ r. ⌜ (r .verdict ≡ scan count 0 (now (part .entry))) × (r .place ≡ decidedAt count 0 (now (part .entry))) ⌝ }
 {
     let table = parities();
+    // The words before the last, as far as they are there.
+    let others = least(part.len(), count - 1);
     let mut i = 0;
-    while i < part.len() {
-        let word = part[i];
-        let fault = fault_at(&table, count, i, word);
+    while i < others {
+        let fault = fault_at(&table, i, false, part[i]);
         if !is_good(fault) {
             return Decision {
                 place: i,
@@ -113,25 +115,30 @@ fn scan(part: &[u16], count: usize) -> Decision
             };
         }
         i += 1;
-        // A good word has the mark where it is the last.
-        if marked(word) {
-            return Decision {
-                place: i,
-                verdict: Verdict::Good,
-            };
-        }
+    }
+    if i == part.len() {
+        return Decision {
+            place: part.len(),
+            verdict: Verdict::Unfinished,
+        };
+    }
+    let fault = fault_at(&table, i, true, part[i]);
+    if is_good(fault) {
+        return Decision {
+            place: count,
+            verdict: Verdict::Good,
+        };
     }
     Decision {
-        place: part.len(),
-        verdict: Verdict::Unfinished,
+        place: i,
+        verdict: fault,
     }
 }
 
-// What is wrong with the word at a place of a sample of `count` words, by the table of parity bits.
-fn fault_at(table: &[u8], count: usize, place: usize, word: u16) -> Verdict
+// What is wrong with the word at a place of a sample that ends with it, or that doesn't, by the table of parity bits.
+fn fault_at(table: &[u8], place: usize, last: bool, word: u16) -> Verdict
     requires { ⌜ now table ≡ parityTable ⌝ }
-    requires { ⌜ place < count ⌝ }
-    ensures { λ r. ⌜ r ≡ faultAt count place word ⌝ }
+    ensures { λ r. ⌜ r ≡ faultAt (cond last (suc place) 0) place word ⌝ }
 {
     if too_large(word) {
         return Verdict::TooLarge;
@@ -142,7 +149,6 @@ fn fault_at(table: &[u8], count: usize, place: usize, word: u16) -> Verdict
     if bad_header(place, word) {
         return Verdict::Header;
     }
-    let last = place + 1 == count;
     let mark = marked(word);
     if last {
         if mark { Verdict::Good } else { Verdict::Mark }

@@ -4,10 +4,10 @@ use super::operation::decode;
 use super::operation::run_by;
 use chip::chip::Chip;
 use words::parity::parities;
+use words::size::least;
 ghost use mathlib.Core.Path.{_≡_};
 ghost use Rattle.script.specs.Run.{blockBuffer, blockOf, recordCount};
 ghost use lib.ListN.{length};
-ghost use Prim.Native.Nat.{min};
 
 // The chip after a block, how many records it took, and how many bytes of text it wrote.
 pub struct Block {
@@ -47,10 +47,4 @@ fn record_count(size: usize) -> usize
     ensures { λ r. ⌜ r ≡ recordCount size ⌝ }
 {
     size / 12 + (size % 12 + 11) / 12
-}
-
-fn least(a: usize, b: usize) -> usize
-    ensures { λ r. ⌜ r ≡ min a b ⌝ }
-{
-    if a < b { a } else { b }
 }

@@ -1,4 +1,5 @@
-// A byte of a sample as a ten-bit word of the stream and back, and the bytes of a number.
+// A byte of a sample as a ten-bit word of the stream and back, the bytes of a number, and the least of two sizes.
 pub mod byte;
 pub mod parity;
+pub mod size;
 pub mod word;

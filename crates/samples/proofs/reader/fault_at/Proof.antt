@@ -1,17 +1,15 @@
 -- `samples::reader::fault_at` meets its contract: each return is the fault by the tests that led there, and by the table the parity
 -- test is the odd-ones rule. Assumes nothing.
 use borrow.Author.Needs.{needs}
-use Prim.Native.Nat.{ℕ, _+_}
-use native.Mathlib.Numerals.{add-one}
+use Prim.Native.Nat.{ℕ, suc}
 use mathlib.Core.Path.{_≡_, refl, sym, ap, _∙_}
-use mathlib.Core.Bool.{Bool, true, false}
+use mathlib.Core.Bool.{Bool, true, false, cond}
 use mathlib.Core.List.{List}
-use lib.Dec.{eqb}
 use borrow.Author.Tests.{not-true, not-false}
 use Rattle.words.specs.Table.{oddBy}
 use Rattle.words.specs.Word.{oddOnes}
 use Rattle.words.proofs.TableLaws.{odd-by}
-use Rattle.samples.proofs.ReadLaws.{fault-by, faultBy}
+use Rattle.samples.proofs.ReadLaws.{ends, fault-by, faultBy}
 use Rattle.samples.specs.Read.{faultAt}
 use Rattle.samples.proofs.reader.fault_at.Statement.{statement}
 use Rattle.samples.proofs.reader.fault_at.Tie as tie
@@ -22,7 +20,7 @@ too-large-requires c κs = search needs
 returns : tie.Need-returns
 returns c =
     let a = c .before .before .before .args in
-    sym (fault-by (a .count) (a .place) (a .word) (sym (c .before .too-large .ensures) ∙ c .if1 .taken) refl refl refl refl)
+    sym (fault-by (cond (a .last) (suc (a .place)) 0) (a .place) (a .word) (sym (c .before .too-large .ensures) ∙ c .if1 .taken) refl refl refl refl)
 
 odd-ones-by-requires : tie.Need-odd-ones-by-requires
 odd-ones-by-requires c κs = search needs
@@ -31,13 +29,13 @@ odd-ones-by-requires c κs = search needs
 odd : (c : tie.After-odd-ones-by) → oddOnes (c .before .before .before .before .args .word) ≡ c .odd-ones-by .result
 odd c =
     let a = c .before .before .before .before .args in
-    sym (c .odd-ones-by .ensures ∙ ap (λ (t : List ℕ). oddBy t (a .word)) (c .before .before .before .before .pre .0) ∙ odd-by (a .word))
+    sym (c .odd-ones-by .ensures ∙ ap (λ (t : List ℕ). oddBy t (a .word)) (c .before .before .before .before .pre) ∙ odd-by (a .word))
 
 returns-2 : tie.Need-returns-2
 returns-2 c =
     let a = c .before .before .before .before .before .args in
     sym
-    (fault-by (a .count) (a .place) (a .word)
+    (fault-by (cond (a .last) (suc (a .place)) 0) (a .place) (a .word)
     (sym (c .before .before .before .too-large .ensures) ∙ c .before .before .if1 .left)
     (odd (c .before) ∙ not-true _ (c .if2 .taken))
     refl
@@ -52,30 +50,27 @@ returns-3 c =
     let d = c .before .before in
     let a = d .before .before .before .before .before .args in
     sym
-    (fault-by (a .count) (a .place) (a .word)
+    (fault-by (cond (a .last) (suc (a .place)) 0) (a .place) (a .word)
     (sym (d .before .before .before .too-large .ensures) ∙ d .before .before .if1 .left)
     (odd (d .before) ∙ not-false _ (d .if2 .left))
     (sym (c .before .bad-header .ensures) ∙ c .if3 .taken)
     refl
     refl)
 
-add-last : tie.Need-add-last
-add-last c = search needs
-
 marked-requires : tie.Need-marked-requires
 marked-requires c κs = search needs
 
 -- after the tests of size, parity and header, the place and the mark decide
-by-mark : (c : tie.After-marked) {last mark : Bool} → eqb (c .before .before .before .before .before .before .before .before .args .place + 1) (c .before .before .before .before .before .before .before .before .args .count) ≡ last → c .marked .result ≡ mark → faultAt (c .before .before .before .before .before .before .before .before .args .count) (c .before .before .before .before .before .before .before .before .args .place) (c .before .before .before .before .before .before .before .before .args .word) ≡ faultBy false true false last mark
+by-mark : (c : tie.After-marked) {last mark : Bool} → c .before .before .before .before .before .before .before .before .args .last ≡ last → c .marked .result ≡ mark → faultAt (cond (c .before .before .before .before .before .before .before .before .args .last) (suc (c .before .before .before .before .before .before .before .before .args .place)) 0) (c .before .before .before .before .before .before .before .before .args .place) (c .before .before .before .before .before .before .before .before .args .word) ≡ faultBy false true false last mark
 by-mark c p q =
     let h = c .before .before in
     let d = h .before in
     let a = d .before .before .before .before .before .args in
-    fault-by (a .count) (a .place) (a .word)
+    fault-by (cond (a .last) (suc (a .place)) 0) (a .place) (a .word)
     (sym (d .before .before .before .too-large .ensures) ∙ d .before .before .if1 .left)
     (odd (d .before) ∙ not-false _ (d .if2 .left))
     (sym (h .bad-header .ensures) ∙ c .before .if3 .left)
-    (ap (λ (k : ℕ). eqb k (a .count)) (sym (add-one (a .place))) ∙ p)
+    (ends (a .last) (a .place) ∙ p)
     (sym (c .marked .ensures) ∙ q)
 
 returns-4 : tie.Need-returns-4
@@ -100,7 +95,6 @@ fault-at-spec =
     returns-2
     bad-header-requires
     returns-3
-    add-last
     marked-requires
     returns-4
     returns-5

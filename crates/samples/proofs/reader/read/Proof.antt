@@ -8,7 +8,7 @@ use mathlib.Core.Bool.{true}
 use lib.ListN.{length}
 use Rattle.samples.specs.Layout.{resource, sampleLength, widths}
 use Rattle.samples.specs.Read.{found, isGood, refusal, scan, wanted}
-use Rattle.samples.proofs.ReadLaws.{read-good, read-bad, read-empty, scan-enough}
+use Rattle.samples.proofs.ReadLaws.{read-good, read-bad, read-empty, scan-whole}
 use Rattle.samples.proofs.reader.read.Statement.{statement}
 use Rattle.samples.proofs.reader.read.Tie as tie
 
@@ -45,7 +45,7 @@ decode-requires c κs =
     let d = c .before .before .before in
     let ws = d .before .before .before .before .before .args .part .now in
     let good : isGood (scan (d .word-count .result) 0 ws) ≡ true = ap isGood (sym (c .before .before .scan .ensures .0)) ∙ sym (c .before .is-good .ensures) ∙ c .if2 .taken in
-    subst (λ (n : ℕ). n ≤ length ws) (size d) (rw zero-add at (scan-enough (d .word-count .result) 0 ws good))
+    subst (λ (n : ℕ). n ≤ length ws) (size d) (rw zero-add at (scan-whole (d .word-count .result) 0 ws good .0))
 
 returns-2 : tie.Need-returns-2
 returns-2 c =
