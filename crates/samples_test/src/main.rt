@@ -1,5 +1,6 @@
-// Runs the writer, the reader and the queue on document 01's cases, for both editions of the chip, and the table of parity bits that they go by,
-// and prints what they give, one line a case.
+// Runs the writer, the reader and the queue on document 01's cases, the reader on damage at every place of a sample too, for both editions of
+// the chip, and the table of parity bits that they go by, and prints what they give, one line a case.
+mod damage;
 mod given;
 mod places;
 mod reading;
@@ -37,6 +38,8 @@ fn cases(edition: Edition) {
     reading::mark(edition);
     reading::two_faults(edition);
     reading::first_fault(edition);
+    damage::every_place(edition, b"Trace, ", false);
+    damage::every_place(edition, b"Resource, ", true);
     stream::several(edition);
 }
 

@@ -82,7 +82,7 @@ pub fn written(written: Written, buffer: &[u16]) {
     print::text(b"\n");
 }
 
-// What the reader answered, its sample with it.
+// What the reader answered and where it was decided, its sample with it.
 pub fn reading(edition: Edition, name: &[u8], found: Reading) {
     case(b"read ", edition, name);
     rest(found);
@@ -93,6 +93,7 @@ pub fn rest(found: Reading) {
     let verdict = found.verdict;
     let sample = found.sample;
     answer(verdict_number(verdict), found.count);
+    print::field(b" place ", found.place as u64);
     print::text(b", ");
     fields(sample);
     print::text(b"\n");
