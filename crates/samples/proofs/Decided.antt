@@ -2,26 +2,27 @@
 -- that the number names, or the part ends, or the sample does. And by the writer, without a word on faults: the place is the most words at
 -- the start of the part that some written sample starts with. By the three cases of a part. Assumes nothing.
 use Prim.Native.Nat.{ℕ, zero, suc, _+_, _≤_, _<_}
-use native.Mathlib.Nat.{mod-eq-of-lt, lt-trans, lt-of-lt-of-le}
+use native.Mathlib.Nat.{lt-of-lt-of-le}
 use native.Mathlib.Omega.{arith}
 use mathlib.Core.Path.{_≡_, refl, sym, ap, ap₂, _∙_, subst}
 use mathlib.Core.Bool.{Bool, true, false, cond, not, _&&_, false≢true}
-use mathlib.Core.List.{List, _++_, map}
+use mathlib.Core.List.{List, [], _++_, map, append-nil}
 use lib.Dec.{eqb, leb, ltb, lit<}
 use lib.ListN.{getD, length, replicate, take, length-append, length-map, length-replicate, List·getD-append, List·getD-map}
 use lib.Seq.{getD-take, length-take-le}
-use borrow.Author.Tests.{leb-false, lt-leb, ltb-false, ltb-true}
+use borrow.Author.Tests.{leb-false, ltb-false, ltb-true}
 use Rattle.words.specs.Word.{byteOf, marked, oddOnes, tooLarge, wordOf}
-use Rattle.words.proofs.WordLaws.{word-back, word-byte}
+use Rattle.words.proofs.WordLaws.{word-back}
 use Rattle.samples.specs.Layout.{Widths, resource, sampleBytes, sampleLength, sampleWords}
 use Rattle.samples.specs.Write.{writable}
-use Rattle.samples.specs.Read.{faultAt, isGood, readPart, sampleOf, verdictNumber, wanted}
+use Rattle.samples.specs.Read.{Found, faultAt, foundBy, isGood, readPart, sampleOf, verdictNumber, wanted}
 use Rattle.samples.specs.declared.sample.Sample.{Sample}
-use Rattle.samples.proofs.Numbers.{GoodBelow, Part, Reached, broken, broken-told, fault-numbers, faultIn, one-of-three, reads-20, unfinished, unfinished-told, whole, whole-told}
+use Rattle.samples.specs.declared.reader.Verdict.the-variants.{Good}
+use Rattle.samples.proofs.Numbers.{GoodBelow, Part, Reached, broken, broken-told, fault-numbers, faultIn, one-of-three, reads-0, reads-20, unfinished, unfinished-told, whole, whole-told}
 use Rattle.samples.proofs.ReadLaws.{map-below}
-use Rattle.samples.proofs.RoundTrip.{after-first, bytes-back, fault-word, header-fit, sixteen-fit, word-passed}
-use Rattle.samples.proofs.SampleLaws.{bytes-below, sample-length, sample-word}
-use Rattle.samples.proofs.Theorems.{header-first, read-size, read-writable}
+use Rattle.samples.proofs.RoundTrip.{bytes-back, sixteen-fit, word-passed}
+use Rattle.samples.proofs.SampleLaws.{sample-length, sample-word}
+use Rattle.samples.proofs.Theorems.{read-size, read-writable, read-written}
 
 -- ---- by the words
 
@@ -54,17 +55,14 @@ module _ (w : Widths) (ws : List ℕ) where
 
   -- and with 21 to 24 one does: no word before the place is bad, and the word there has the fault of that number
   pub place-fault : 21 ≤ readPart w ws .number → Reached w ws (readPart w ws .place) × (verdictNumber (faultIn w ws (readPart w ws .place)) ≡ readPart w ws .number)
-  place-fault large = go (one-of-three w ws)
+  place-fault large =
+      at-place (λ (p : ℕ). Reached w ws p × (verdictNumber (faultIn w ws p) ≡ readPart w ws .number))
+      (λ p r bad. (r, sym (broken-told w ws p r bad .0)))
+      (λ few good. absurd (other 20 (unfinished-told w ws few good .0) (lit< tt)))
+      (λ enough good. absurd (other 0 (whole-told w ws enough good .0) (lit< tt)))
     where
-      few-numbers : (k : ℕ) → readPart w ws .number ≡ k → k < 21 → ⊥
-      few-numbers k e h = omega arith
-
-      go : Part w ws → Reached w ws (readPart w ws .place) × (verdictNumber (faultIn w ws (readPart w ws .place)) ≡ readPart w ws .number)
-      go (broken p r bad) =
-          let b = broken-told w ws p r bad in
-          subst (λ (q : ℕ). Reached w ws q × (verdictNumber (faultIn w ws q) ≡ readPart w ws .number)) (sym (b .1)) (r, sym (b .0))
-      go (unfinished few good) = absurd (few-numbers 20 (unfinished-told w ws few good .0) (lit< tt))
-      go (whole enough good) = absurd (few-numbers 0 (whole-told w ws enough good .0) (lit< tt))
+      other : (k : ℕ) → readPart w ws .number ≡ k → k < 21 → ⊥
+      other k e h = omega arith
 
   -- so its tests are those of the number: above 1023; else parity; else, of the first, header bits 5 to 7; else the end mark missing on the
   -- last word or set on another
@@ -84,30 +82,23 @@ pub record Starts (w : Widths) (ws : List ℕ) (k : ℕ) : Type 0 where
   pub long : k ≤ length (sampleWords w sample)
   pub same : (j : ℕ) → j < k → getD ws j 0 ≡ getD (sampleWords w sample) j 0
 
--- a written sample's first word has its header, and each of its words is good in its place
+-- a written sample's words are read whole, so they are wanted and good
 module _ (w : Widths) (s : Sample) (fit : writable w s ≡ true) where
-  abbrev n : ℕ
-  n = sampleLength w (resource (s .header))
+  abbrev words : List ℕ
+  words = sampleWords w s
 
-  first-byte : getD (sampleBytes w s) 0 0 ≡ s .header
-  first-byte = ap (λ (l : List ℕ). getD l 0 0) (header-first w s) ∙ mod-eq-of-lt (lt-trans (header-fit w s fit) (lit< tt))
+  written-read : readPart w words ≡ foundBy Good s (sampleLength w (resource (s .header))) (sampleLength w (resource (s .header)))
+  written-read = ap (readPart w) (sym (append-nil words)) ∙ read-written w s [] fit
 
-  word : (j : ℕ) → j < n → getD (sampleWords w s) j 0 ≡ wordOf (eqb (suc j) n) (getD (sampleBytes w s) j 0)
-  word = sample-word w s (sixteen-fit w s fit)
+  written-whole : (wanted w words ≤ length words) × GoodBelow w words (wanted w words)
+  written-whole = reads-0 w words .0 (ap (λ (f : Found). f .number) written-read)
 
-  first-header : byteOf (getD (sampleWords w s) 0 0) ≡ s .header
-  first-header = ap byteOf (word 0 (omega arith)) ∙ word-byte (eqb 1 n) (getD (sampleBytes w s) 0 0) (bytes-below w s 0) ∙ first-byte
+  written-wanted : wanted w words ≡ sampleLength w (resource (s .header))
+  written-wanted = sym (whole-told w words (written-whole .0) (written-whole .1) .1) ∙ ap (λ (f : Found). f .place) written-read
 
-  written-good : (j : ℕ) → j < n → isGood (faultAt n j (getD (sampleWords w s) j 0)) ≡ true
-  written-good j h = ap (λ (x : ℕ). isGood (faultAt n j x)) (word j h) ∙ ap isGood (fault-word n j (getD (sampleBytes w s) j 0) (eqb (suc j) n) (bytes-below w s j) (header-free j) refl)
-    where
-      header-free : (j : ℕ) → (eqb j 0 && leb 32 (getD (sampleBytes w s) j 0)) ≡ false
-      header-free zero = lt-leb 32 (getD (sampleBytes w s) 0 0) (subst (λ (x : ℕ). x < 32) (sym first-byte) (header-fit w s fit))
-      header-free (suc j) = after-first j (getD (sampleBytes w s) (suc j) 0)
-
--- a part wants as many words as a sample has that it starts with
-starts-wanted : (w : Widths) (ws : List ℕ) (k : ℕ) (st : Starts w ws k) → 0 < k → wanted w ws ≡ sampleLength w (resource (st .sample .header))
-starts-wanted w ws k st some = ap (λ (b : ℕ). sampleLength w (resource b)) (ap byteOf (st .same 0 some) ∙ first-header w (st .sample) (st .fits))
+-- a part wants as many words as a sample that it starts with
+starts-wanted : (w : Widths) (ws : List ℕ) (k : ℕ) (st : Starts w ws k) → 0 < k → wanted w ws ≡ wanted w (sampleWords w (st .sample))
+starts-wanted w ws k st some = ap (λ (x : ℕ). sampleLength w (resource (byteOf x))) (st .same 0 some)
 
 -- no sample that the writer takes starts with more words of the part
 pub place-most : (w : Widths) (ws : List ℕ) (k : ℕ) → Starts w ws k → k ≤ readPart w ws .place
@@ -116,13 +107,11 @@ place-most w ws k st = at-place w ws (λ (m : ℕ). k ≤ m) (λ p r bad. decide
     s : Sample
     s = st .sample
 
-    short : k ≤ sampleLength w (resource (s .header))
-    short = subst (λ (m : ℕ). k ≤ m) (sample-length w s (sixteen-fit w s (st .fits))) (st .long)
+    short : k ≤ wanted w (sampleWords w s)
+    short = subst (λ (m : ℕ). k ≤ m) (sample-length w s (sixteen-fit w s (st .fits)) ∙ sym (written-wanted w s (st .fits))) (st .long)
 
     below : (p : ℕ) → p < k → isGood (faultIn w ws p) ≡ true
-    below p h =
-        (λ i. isGood (faultAt (starts-wanted w ws k st (omega arith) i) p (st .same p h i)))
-        ∙ written-good w s (st .fits) p (lt-of-lt-of-le h short)
+    below p h = (λ i. isGood (faultAt (starts-wanted w ws k st (omega arith) i) p (st .same p h i))) ∙ written-whole w s (st .fits) .1 p (lt-of-lt-of-le h short)
 
     decides : (p : ℕ) → isGood (faultIn w ws p) ≡ false → (t : Bool) → ltb p k ≡ t → k ≤ p
     decides p bad true e = absurd (false≢true (sym bad ∙ below p (ltb-true p k e)))

@@ -63,9 +63,9 @@ written-one a b e = sym (back a) ∙ ap of e ∙ back b
 
 -- ---- the reader: number and place of the scan, and within a word the order 21, 22, 23, 24
 
-reads : (w : Widths) (ws : List ℕ) → (readPart w ws .number ≡ verdictNumber (scan (wanted w ws) 0 ws)) × (readPart w ws .place ≡ decidedAt (wanted w ws) 0 ws)
+reads-scan : (w : Widths) (ws : List ℕ) → (readPart w ws .number ≡ verdictNumber (scan (wanted w ws) 0 ws)) × (readPart w ws .place ≡ decidedAt (wanted w ws) 0 ws)
 unfolding readPart
-reads w ws = go (scan (wanted w ws) 0 ws) (sampleOf w (map byteOf ws)) (wanted w ws) (decidedAt (wanted w ws) 0 ws)
+reads-scan w ws = go (scan (wanted w ws) 0 ws) (sampleOf w (map byteOf ws)) (wanted w ws) (decidedAt (wanted w ws) 0 ws)
   where
     go : (v : Verdict) (s : Sample) (n p : ℕ) → (foundBy v s n p .number ≡ verdictNumber v) × (foundBy v s n p .place ≡ p)
     go Good s n p = (refl, refl)
@@ -173,7 +173,7 @@ module _ (w : Widths) (ws : List ℕ) where
 
   -- what the scan gives, and where, is what the reader gives
   told : (v : Verdict) (p : ℕ) → scan (wanted w ws) 0 ws ≡ v → decidedAt (wanted w ws) 0 ws ≡ p → (readPart w ws .number ≡ verdictNumber v) × (readPart w ws .place ≡ p)
-  told v p a b = (reads w ws .0 ∙ ap verdictNumber a, reads w ws .1 ∙ b)
+  told v p a b = (reads-scan w ws .0 ∙ ap verdictNumber a, reads-scan w ws .1 ∙ b)
 
   -- "The first bad word decides", whatever comes after it; Wish 12: "the place of the deciding word"
   pub broken-told : (p : ℕ) → Reached w ws p → isGood (faultIn w ws p) ≡ false → (readPart w ws .number ≡ verdictNumber (faultIn w ws p)) × (readPart w ws .place ≡ p)

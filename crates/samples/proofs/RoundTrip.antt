@@ -29,7 +29,7 @@ same-mark true = refl
 same-mark false = refl
 
 -- the word of a byte is good at a place where its mark belongs
-pub fault-word : (n i b : ℕ) (last : Bool) → b < 256 → (eqb i 0 && leb 32 b) ≡ false → eqb (suc i) n ≡ last → faultAt n i (wordOf last b) ≡ Good
+fault-word : (n i b : ℕ) (last : Bool) → b < 256 → (eqb i 0 && leb 32 b) ≡ false → eqb (suc i) n ≡ last → faultAt n i (wordOf last b) ≡ Good
 fault-word n i b last h p q =
     fault-by n i (wordOf last b) (word-small last b h) (word-odd last b h)
     (ap (λ (x : ℕ). eqb i 0 && leb 32 x) (word-byte last b h) ∙ p)
@@ -37,7 +37,7 @@ fault-word n i b last h p q =
     (word-marked last b h)
     ∙ same-mark last
 
-pub after-first : (i b : ℕ) → (eqb (suc i) 0 && leb 32 b) ≡ false
+after-first : (i b : ℕ) → (eqb (suc i) 0 && leb 32 b) ≡ false
 after-first i b = ap (λ (t : Bool). t && leb 32 b) (eqb·suc-zero i)
 
 pub scan-written : (n i b : ℕ) (bs rest : List ℕ) → ((j : ℕ) → getD (b ∷ bs) j 0 < 256) → n ≡ suc (i + length bs) → (eqb i 0 && leb 32 b) ≡ false → scan n i (wordsOf (b ∷ bs) ++ rest) ≡ Good

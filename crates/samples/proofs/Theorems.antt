@@ -26,10 +26,10 @@ use Rattle.samples.proofs.SampleLaws.{bytes-below, bytes-length, sample
 use Rattle.samples.proofs.WriteLaws.{wrote, wrote-short, wrote-unfit}
 
 -- the header's byte comes first
-pub rest-of : Widths → Sample → List ℕ
+rest-of : Widths → Sample → List ℕ
 rest-of w s = drop 1 (sampleBytes w s)
 
-pub header-first : (w : Widths) (s : Sample) → sampleBytes w s ≡ s .header % 256 ∷ rest-of w s
+header-first : (w : Widths) (s : Sample) → sampleBytes w s ≡ s .header % 256 ∷ rest-of w s
 unfolding sampleBytes fieldBytes spread lowBytes rest-of
 header-first w s = refl
 
