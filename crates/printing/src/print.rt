@@ -73,6 +73,17 @@ pub fn words(ws: &[u16]) {
     end(run);
 }
 
+// A sample's counters.
+pub fn counters(cs: [u32; 16]) {
+    let mut run = no_run();
+    let mut i = 0;
+    while i < 16 {
+        run = add(run, cs[i] as u64);
+        i += 1;
+    }
+    end(run);
+}
+
 fn wide(x: u16) -> u64
     ensures { λ r. ⌜ r ≡ x ⌝ }
 {

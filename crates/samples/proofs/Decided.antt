@@ -1,6 +1,7 @@
 -- Document 02, Wish 12, "Say where it broke", in two ways. By the words: those before the place are good, and there the word has the fault
 -- that the number names, or the part ends, or the sample does. And by the writer, without a word on faults: the place is the most words at
--- the start of the part that some written sample starts with. By the three cases of a part. Assumes nothing.
+-- the start of the part that some written sample starts with. By the three cases of a part. And what comes after the deciding word isn't looked at
+-- (`after-bad`). Assumes nothing.
 use Prim.Native.Nat.{ℕ, zero, suc, _+_, _≤_, _<_}
 use native.Mathlib.Nat.{lt-of-lt-of-le}
 use native.Mathlib.Omega.{arith}
@@ -10,7 +11,7 @@ use mathlib.Core.List.{List, [], _++_, map, append-nil}
 use lib.Dec.{eqb, leb, ltb, lit<}
 use lib.ListN.{getD, length, replicate, take, length-append, length-map, length-replicate, List·getD-append, List·getD-map}
 use lib.Seq.{getD-take, length-take-le}
-use borrow.Author.Tests.{leb-false, ltb-false, ltb-true}
+use borrow.Author.Tests.{leb-false, ltb-false, ltb-true, ne-eqb}
 use Rattle.words.specs.Word.{byteOf, marked, oddOnes, tooLarge, wordOf}
 use Rattle.words.proofs.WordLaws.{word-back}
 use Rattle.samples.specs.Layout.{Widths, resource, sampleBytes, sampleLength, sampleWords}
@@ -18,7 +19,7 @@ use Rattle.samples.specs.Write.{writable}
 use Rattle.samples.specs.Read.{Found, faultAt, foundBy, isGood, readPart, sampleOf, verdictNumber, wanted}
 use Rattle.samples.specs.declared.sample.Sample.{Sample}
 use Rattle.samples.specs.declared.reader.Verdict.the-variants.{Good}
-use Rattle.samples.proofs.Numbers.{GoodBelow, Part, Reached, broken, broken-told, fault-numbers, faultIn, one-of-three, reads-0, reads-20, unfinished, unfinished-told, whole, whole-told}
+use Rattle.samples.proofs.Numbers.{GoodBelow, Part, Reached, broken, broken-told, fault-numbers, faultIn, number-good, one-of-three, reads-0, reads-20, unfinished, unfinished-told, whole, whole-told}
 use Rattle.samples.proofs.ReadLaws.{map-below}
 use Rattle.samples.proofs.RoundTrip.{bytes-back, sixteen-fit, word-passed}
 use Rattle.samples.proofs.SampleLaws.{sample-length, sample-word}
@@ -72,6 +73,34 @@ module _ (w : Widths) (ws : List ℕ) where
       let is : (k : ℕ) → eqb (readPart w ws .number) k ≡ eqb (verdictNumber (faultIn w ws (readPart w ws .place))) k = λ k. ap (λ (m : ℕ). eqb m k) (sym (place-fault large .1)) in
       (is 21 ∙ tests .1, is 22 ∙ tests .2, is 23 ∙ tests .3, is 24 ∙ tests .4)
 
+-- what comes after the deciding word isn't looked at
+module _ (w : Widths) (ws rest : List ℕ) (large : 21 ≤ readPart w ws .number) where
+  abbrev p : ℕ
+  p = readPart w ws .place
+
+  there : p < length ws
+  there = place-fault w ws large .0 .there
+
+  same-wanted : wanted w (ws ++ rest) ≡ wanted w ws
+  same-wanted = ap (λ (x : ℕ). sampleLength w (resource (byteOf x))) (List·getD-append ws rest 0 0 (omega (arith, there)))
+
+  same-fault : (j : ℕ) → j ≤ p → faultIn w (ws ++ rest) j ≡ faultIn w ws j
+  same-fault j h = λ i. faultAt (same-wanted i) j (List·getD-append ws rest 0 j (omega (arith, there)) i)
+
+  pub after-bad : (readPart w (ws ++ rest) .number ≡ readPart w ws .number) × (readPart w (ws ++ rest) .place ≡ readPart w ws .place)
+  after-bad =
+      let fault = place-fault w ws large in
+      let reached : Reached w (ws ++ rest) p =
+      record {
+        there = omega (arith, there, length-append ws rest);
+        inside = subst (λ (n : ℕ). p < n) (sym same-wanted) (fault .0 .inside);
+        before = λ j h. ap isGood (same-fault j (omega arith)) ∙ fault .0 .before j h;
+      } in
+      let bad : isGood (faultIn w (ws ++ rest) p) ≡ false =
+      ap isGood (same-fault p (omega arith)) ∙ number-good (faultIn w ws p) ∙ ne-eqb (verdictNumber (faultIn w ws p)) 0 (λ e. omega (arith, e, fault .1, large)) in
+      let told = broken-told w (ws ++ rest) p reached bad in
+      (told .0 ∙ ap verdictNumber (same-fault p (omega arith)) ∙ fault .1, told .1)
+
 -- ---- by the writer
 
 -- the part has k words at its start that are the first k of a sample which the writer takes
@@ -90,10 +119,10 @@ module _ (w : Widths) (s : Sample) (fit : writable w s ≡ true) where
   written-read : readPart w words ≡ foundBy Good s (sampleLength w (resource (s .header))) (sampleLength w (resource (s .header)))
   written-read = ap (readPart w) (sym (append-nil words)) ∙ read-written w s [] fit
 
-  written-whole : (wanted w words ≤ length words) × GoodBelow w words (wanted w words)
+  pub written-whole : (wanted w words ≤ length words) × GoodBelow w words (wanted w words)
   written-whole = reads-0 w words .0 (ap (λ (f : Found). f .number) written-read)
 
-  written-wanted : wanted w words ≡ sampleLength w (resource (s .header))
+  pub written-wanted : wanted w words ≡ sampleLength w (resource (s .header))
   written-wanted = sym (whole-told w words (written-whole .0) (written-whole .1) .1) ∙ ap (λ (f : Found). f .place) written-read
 
 -- a part wants as many words as a sample that it starts with

@@ -75,9 +75,9 @@ reads-scan w ws = go (scan (wanted w ws) 0 ws) (sampleOf w (map byteOf ws)) (wan
     go Header s n p = (refl, refl)
     go Mark s n p = (refl, refl)
 
--- two readings that are told alike are equal, so the reader's contract leaves one
-pub reading-one : (a b : Reading) → found a ≡ found b → a ≡ b
-reading-one a b e = λ i. record { sample = e i .sample; count = e i .count; place = e i .place; verdict = same i }
+-- verdicts of one number are one
+pub verdict-one : (a b : Verdict) → verdictNumber a ≡ verdictNumber b → a ≡ b
+verdict-one a b e = sym (back a) ∙ ap of e ∙ back b
   where
     of : ℕ → Verdict
     of n = cond (eqb n 0) Good (cond (eqb n 20) Unfinished (cond (eqb n 21) TooLarge (cond (eqb n 22) Parity (cond (eqb n 23) Header Mark))))
@@ -90,8 +90,11 @@ reading-one a b e = λ i. record { sample = e i .sample; count = e i .count; pla
     back Header = refl
     back Mark = refl
 
-    same : a .verdict ≡ b .verdict
-    same = sym (back (a .verdict)) ∙ ap (λ (f : Found). of (f .number)) e ∙ back (b .verdict)
+-- so two readings that are told alike are equal, and the reader's contract leaves one
+pub reading-one : (a b : Reading) → found a ≡ found b → a ≡ b
+reading-one a b e =
+    let same : a .verdict ≡ b .verdict = verdict-one (a .verdict) (b .verdict) (ap (λ (f : Found). f .number) e) in
+    λ i. record { sample = e i .sample; count = e i .count; place = e i .place; verdict = same i }
 
 fault-tests : (large odd header last mark : Bool) → (eqb (verdictNumber (faultBy large odd header last mark)) 20 ≡ false) × (eqb (verdictNumber (faultBy large odd header last mark)) 21 ≡ large) × (eqb (verdictNumber (faultBy large odd header last mark)) 22 ≡ (not large && not odd)) × (eqb (verdictNumber (faultBy large odd header last mark)) 23 ≡ (not large && (odd && header))) × (eqb (verdictNumber (faultBy large odd header last mark)) 24 ≡ (not large && (odd && (not header && cond last (not mark) mark)))) × (eqb (verdictNumber (faultBy large odd header last mark)) 0 ≡ (not large && (odd && (not header && cond last mark (not mark)))))
 fault-tests true odd header last mark = (refl, refl, refl, refl, refl, refl)
@@ -118,16 +121,25 @@ pub record AllZeros (f : Found) : Type 0 where
   pub counter : (i : ℕ) → i < 16 → getD (f .sample .counters) i 0 ≡ 0
   pub count : f .count ≡ 0
 
--- so with every number but a sample's
-pub refused-zeros : (w : Widths) (ws : List ℕ) → eqb (readPart w ws .number) 0 ≡ false → AllZeros (readPart w ws)
+-- with every number but a sample's there is nothing beside number and place
+pub refused-nothing : (w : Widths) (ws : List ℕ) → eqb (readPart w ws .number) 0 ≡ false → readPart w ws ≡ nothing (readPart w ws .number) (readPart w ws .place)
 unfolding readPart
-refused-zeros w ws e = go (scan (wanted w ws) 0 ws) e
+refused-nothing w ws e = go (scan (wanted w ws) 0 ws) (sampleOf w (map byteOf ws)) (wanted w ws) (decidedAt (wanted w ws) 0 ws) e
   where
-    p : ℕ
-    p = decidedAt (wanted w ws) 0 ws
+    go : (v : Verdict) (s : Sample) (n p : ℕ) → eqb (foundBy v s n p .number) 0 ≡ false → foundBy v s n p ≡ nothing (foundBy v s n p .number) (foundBy v s n p .place)
+    go Good s n p q = absurd (false≢true (sym q))
+    go Unfinished s n p q = refl
+    go TooLarge s n p q = refl
+    go Parity s n p q = refl
+    go Header s n p q = refl
+    go Mark s n p q = refl
 
-    zeros : (number : ℕ) → AllZeros (nothing number p)
-    zeros number =
+-- so all is zero
+pub refused-zeros : (w : Widths) (ws : List ℕ) → eqb (readPart w ws .number) 0 ≡ false → AllZeros (readPart w ws)
+refused-zeros w ws e = subst AllZeros (sym (refused-nothing w ws e)) (zeros (readPart w ws .number) (readPart w ws .place))
+  where
+    zeros : (number place : ℕ) → AllZeros (nothing number place)
+    zeros number place =
         record {
           header = refl;
           source = refl;
@@ -138,13 +150,25 @@ refused-zeros w ws e = go (scan (wanted w ws) 0 ws) e
           count = refl;
         }
 
-    go : (v : Verdict) → eqb (foundBy v (sampleOf w (map byteOf ws)) (wanted w ws) p .number) 0 ≡ false → AllZeros (foundBy v (sampleOf w (map byteOf ws)) (wanted w ws) p)
+-- and the number is one of 20 to 24
+pub refused-numbers : (w : Widths) (ws : List ℕ) → eqb (readPart w ws .number) 0 ≡ false → (20 ≤ readPart w ws .number) × (readPart w ws .number ≤ 24)
+refused-numbers w ws e = subst (λ (n : ℕ). (20 ≤ n) × (n ≤ 24)) (sym (reads-scan w ws .0)) (go (scan (wanted w ws) 0 ws) (ap (λ (n : ℕ). eqb n 0) (sym (reads-scan w ws .0)) ∙ e))
+  where
+    go : (v : Verdict) → eqb (verdictNumber v) 0 ≡ false → (20 ≤ verdictNumber v) × (verdictNumber v ≤ 24)
     go Good q = absurd (false≢true (sym q))
-    go Unfinished q = zeros 20
-    go TooLarge q = zeros 21
-    go Parity q = zeros 22
-    go Header q = zeros 23
-    go Mark q = zeros 24
+    go Unfinished q = (omega arith, omega arith)
+    go TooLarge q = (omega arith, omega arith)
+    go Parity q = (omega arith, omega arith)
+    go Header q = (omega arith, omega arith)
+    go Mark q = (omega arith, omega arith)
+
+-- whatever the reader answers, the part has the words that it counts
+pub count-within : (w : Widths) (ws : List ℕ) → readPart w ws .count ≤ length ws
+count-within w ws = go (eqb (readPart w ws .number) 0) refl
+  where
+    go : (t : Bool) → eqb (readPart w ws .number) 0 ≡ t → readPart w ws .count ≤ length ws
+    go true e = accepted-count w ws (eqb-true (readPart w ws .number) 0 e) .1
+    go false e = omega (arith, refused-zeros w ws e .count)
 
 -- ---- the reader, over the words of a part
 
@@ -231,7 +255,8 @@ one-of-three w ws = parts w ws (length ws) 0 (zero-add (length ws)) (omega arith
 
 -- ---- the reader's numbers, each exactly in its case
 
-number-good : (v : Verdict) → isGood v ≡ eqb (verdictNumber v) 0
+-- a verdict's number is 0 with a sample, and with nothing else
+pub number-good : (v : Verdict) → isGood v ≡ eqb (verdictNumber v) 0
 number-good Good = refl
 number-good Unfinished = refl
 number-good TooLarge = refl

@@ -10,20 +10,6 @@ use samples::writer::written_count;
 use samples::writer::written_number;
 use words::word::byte;
 
-fn wide(x: u32) -> u64 {
-    x as u64
-}
-
-fn counters(cs: [u32; 16]) {
-    let mut run = print::no_run();
-    let mut i = 0;
-    while i < 16 {
-        run = print::add(run, wide(cs[i]));
-        i += 1;
-    }
-    print::end(run);
-}
-
 fn fields(sample: Sample) {
     print::field(b"header ", sample.header as u64);
     print::field(b" source ", sample.source as u64);
@@ -31,7 +17,7 @@ fn fields(sample: Sample) {
     print::field(b" user ", sample.user);
     print::text(b" counters");
     let cs = sample.counters;
-    counters(cs);
+    print::counters(cs);
 }
 
 // Begins a line: what is done, in which edition, and the case's name or its first part.

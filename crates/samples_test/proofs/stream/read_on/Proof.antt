@@ -7,7 +7,7 @@ use mathlib.Core.Path.{_≡_, ap}
 use lib.ListN.{length, take, drop, length-take, length-drop}
 use Rattle.samples.specs.Layout.{widths}
 use Rattle.samples.specs.Read.{Found, readPart}
-use Rattle.samples_test.proofs.StreamLaws.{count-within}
+use Rattle.samples.proofs.Numbers.{count-within}
 use Rattle.samples_test.proofs.stream.read_on.Statement.{statement}
 use Rattle.samples_test.proofs.stream.read_on.Tie as tie
 

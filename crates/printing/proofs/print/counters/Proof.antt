@@ -1,8 +1,8 @@
--- `samples_test::show::counters` is safe and ends: it counts to 16. Assumes nothing.
+-- `printing::print::counters` is safe and ends: it counts to 16. Assumes nothing.
 use borrow.Author.Needs.{needs}
 use Prim.Native.Nat.{_≤_, _-_}
-use Rattle.samples_test.proofs.show.counters.Statement.{statement}
-use Rattle.samples_test.proofs.show.counters.Tie as tie
+use Rattle.printing.proofs.print.counters.Statement.{statement}
+use Rattle.printing.proofs.print.counters.Tie as tie
 
 abbrev Inv-loop : tie.InvT-loop
 Inv-loop cs run₀ i₀ run i = i ≤ 16
@@ -16,14 +16,14 @@ no-run-requires c κs = search needs
 loop-holds : tie.Need-loop-holds Inv-loop μ-loop
 loop-holds c = search needs
 
-mul-wide : tie.Need-mul-wide Inv-loop μ-loop
-mul-wide c = search needs
+mul-add : tie.Need-mul-add Inv-loop μ-loop
+mul-add c = search needs
 
-array-read-wide : tie.Need-array-read-wide Inv-loop μ-loop
-array-read-wide c = search needs
+array-read-add : tie.Need-array-read-add Inv-loop μ-loop
+array-read-add c = search needs
 
-wide-requires : tie.Need-wide-requires Inv-loop μ-loop
-wide-requires c κs = search needs
+cast-add : tie.Need-cast-add Inv-loop μ-loop
+cast-add c = search needs
 
 add-requires : tie.Need-add-requires Inv-loop μ-loop
 add-requires c κs = search needs
@@ -51,9 +51,9 @@ counters-spec =
     μ-loop
     no-run-requires
     loop-holds
-    mul-wide
-    array-read-wide
-    wide-requires
+    mul-add
+    array-read-add
+    cast-add
     add-requires
     add-i
     loop-less
