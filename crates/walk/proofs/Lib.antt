@@ -1,0 +1,6 @@
+-- The laws that belong to no one function.
+pub mod Answers
+pub mod BoundaryLaws
+pub mod Damage
+pub mod Flipped
+pub mod Whole
