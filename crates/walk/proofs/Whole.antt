@@ -4,7 +4,7 @@
 use Prim.Native.Nat.{ℕ, zero, suc, _+_, _-_, _≤_, _<_}
 use native.Mathlib.Nat.{add-sub-cancel, not-suc-le-zero}
 use native.Mathlib.Omega.{arith}
-use mathlib.Core.Path.{_≡_, refl, sym, ap, ap₂, _∙_}
+use mathlib.Core.Path.{_≡_, refl, sym, ap, ap₂, _∙_, subst}
 use mathlib.Core.Bool.{Bool, true, false, cond}
 use mathlib.Core.List.{List, [], _∷_, _++_, append-nil}
 use lib.Dec.{eqb}
@@ -23,24 +23,41 @@ pub one-call : (w : Widths) (ws : List ℕ) (k place : ℕ) {t : Bool} → eqb (
 unfolding answers
 one-call w ws k place e = ap (λ (t : Bool). answerAt w ws place ∷ cond t [] (answers w ws k (answerAt w ws place .next))) e
 
+-- what holds of 20 alone, and of any other answer before those of which it holds, holds of as many calls as there are words from the place
+-- on, and one more
+by-calls : (w : Widths) (ws : List ℕ) (P : ℕ → List Answer → Type 0) → ((place : ℕ) → eqb (answerAt w ws place .number) 20 ≡ true → P place (answerAt w ws place ∷ [])) → ((place : ℕ) (rest : List Answer) → eqb (answerAt w ws place .number) 20 ≡ false → P (answerAt w ws place .next) rest → P place (answerAt w ws place ∷ rest)) → (k place : ℕ) → length ws - place < k → P place (answers w ws k place)
+by-calls w ws P end on zero place h = absurd (not-suc-le-zero h)
+by-calls w ws P end on (suc k) place h = go (eqb (answerAt w ws place .number) 20) refl (by-calls w ws P end on k (answerAt w ws place .next))
+  where
+    next : ℕ
+    next = answerAt w ws place .next
+
+    go : (t : Bool) → eqb (answerAt w ws place .number) 20 ≡ t → (length ws - next < k → P next (answers w ws k next)) → P place (answers w ws (suc k) place)
+    go true e more = subst (P place) (sym (one-call w ws k place e)) (end place e)
+    go false e more =
+        let moves = moves-on w ws place e in
+        subst (P place) (sym (one-call w ws k place e)) (on place (answers w ws k next) e (more (omega (arith, moves .0, moves .1))))
+
 -- ---- how many calls there are
 
--- as many as there are words from the place on, and one more, are enough: others change nothing
-calls-enough : (w : Widths) (ws : List ℕ) (k m place : ℕ) → length ws - place < k → length ws - place < m → answers w ws k place ≡ answers w ws m place
-calls-enough w ws zero m place a b = absurd (not-suc-le-zero a)
-calls-enough w ws (suc k) zero place a b = absurd (not-suc-le-zero b)
-calls-enough w ws (suc k) (suc m) place a b = go (eqb (answerAt w ws place .number) 20) refl (calls-enough w ws k m (answerAt w ws place .next))
+-- others change nothing
+calls-same : (w : Widths) (ws : List ℕ) (k m place : ℕ) → length ws - place < k → length ws - place < m → answers w ws k place ≡ answers w ws m place
+calls-same w ws k m place h g = by-calls w ws (λ (n : ℕ) (l : List Answer). (m : ℕ) → length ws - n < m → l ≡ answers w ws m n) end on k place h m g
   where
-    go : (t : Bool) → eqb (answerAt w ws place .number) 20 ≡ t → (length ws - answerAt w ws place .next < k → length ws - answerAt w ws place .next < m → answers w ws k (answerAt w ws place .next) ≡ answers w ws m (answerAt w ws place .next)) → answers w ws (suc k) place ≡ answers w ws (suc m) place
-    go true e more = one-call w ws k place e ∙ sym (one-call w ws m place e)
-    go false e more =
-        let on = moves-on w ws place e in
-        one-call w ws k place e ∙ ap (λ (l : List Answer). answerAt w ws place ∷ l) (more (omega (arith, on .0, on .1)) (omega (arith, on .0, on .1))) ∙ sym (one-call w ws m place e)
+    end : (n : ℕ) → eqb (answerAt w ws n .number) 20 ≡ true → (m : ℕ) → length ws - n < m → answerAt w ws n ∷ [] ≡ answers w ws m n
+    end n e zero g = absurd (not-suc-le-zero g)
+    end n e (suc m) g = sym (one-call w ws m n e)
+
+    on : (n : ℕ) (rest : List Answer) → eqb (answerAt w ws n .number) 20 ≡ false → ((m : ℕ) → length ws - answerAt w ws n .next < m → rest ≡ answers w ws m (answerAt w ws n .next)) → (m : ℕ) → length ws - n < m → answerAt w ws n ∷ rest ≡ answers w ws m n
+    on n rest e more zero g = absurd (not-suc-le-zero g)
+    on n rest e more (suc m) g =
+        let moves = moves-on w ws n e in
+        ap (λ (l : List Answer). answerAt w ws n ∷ l) (more m (omega (arith, moves .0, moves .1))) ∙ sym (one-call w ws m n e)
 
 -- the whole walk is what any number of calls that is above the words gives
 pub enough-calls : (w : Widths) (ws : List ℕ) (k : ℕ) → length ws < k → answers w ws k 0 ≡ walk w ws
 unfolding walk
-enough-calls w ws k h = calls-enough w ws k (suc (length ws)) 0 (omega arith) (omega arith)
+enough-calls w ws k h = calls-same w ws k (suc (length ws)) 0 (omega arith) (omega arith)
 
 calls-length : (w : Widths) (ws : List ℕ) (k place : ℕ) → length (answers w ws k place) ≤ k
 unfolding answers
@@ -58,18 +75,15 @@ walk-length w ws = calls-length w ws (suc (length ws)) 0
 
 -- ---- the last answer is 20, and none before it
 
-calls-end : (w : Widths) (ws : List ℕ) (k place : ℕ) → length ws - place < k → endsWith20 (answers w ws k place) ≡ true
-unfolding answers endsWith20
-calls-end w ws zero place a = absurd (not-suc-le-zero a)
-calls-end w ws (suc k) place a = go (eqb (answerAt w ws place .number) 20) refl (calls-end w ws k (answerAt w ws place .next))
-  where
-    go : (t : Bool) → eqb (answerAt w ws place .number) 20 ≡ t → (length ws - answerAt w ws place .next < k → endsWith20 (answers w ws k (answerAt w ws place .next)) ≡ true) → cond t (eqb (length (cond t [] (answers w ws k (answerAt w ws place .next)))) 0) (endsWith20 (cond t [] (answers w ws k (answerAt w ws place .next)))) ≡ true
-    go true e more = refl
-    go false e more = let on = moves-on w ws place e in more (omega (arith, on .0, on .1))
-
 pub walk-ends : (w : Widths) (ws : List ℕ) → endsWith20 (walk w ws) ≡ true
-unfolding walk
-walk-ends w ws = calls-end w ws (suc (length ws)) 0 (omega arith)
+unfolding walk endsWith20
+walk-ends w ws =
+    by-calls w ws (λ (n : ℕ) (l : List Answer). endsWith20 l ≡ true)
+    (λ n e. ap (λ (t : Bool). cond t true false) e)
+    (λ n rest e more. ap (λ (t : Bool). cond t (eqb (length rest) 0) (endsWith20 rest)) e ∙ more)
+    (suc (length ws))
+    0
+    (omega arith)
 
 -- ---- what the answers stand for are all the words, in order: nothing is counted twice and nothing passed over
 
@@ -107,17 +121,12 @@ module _ (w : Widths) (ws : List ℕ) (place : ℕ) where
           ∙ ap₂ (λ (x y : List ℕ). x ++ y) (stands-gap w ws (readPart w (drop place ws) .number) place (place + readPart w (drop place ws) .place) k h) (sym (drop-drop k place ws))
           ∙ take-append-drop k (drop place ws)
 
-calls-cover : (w : Widths) (ws : List ℕ) (k place : ℕ) → length ws - place < k → allWords w ws (answers w ws k place) ≡ drop place ws
-unfolding answers allWords
-calls-cover w ws zero place a = absurd (not-suc-le-zero a)
-calls-cover w ws (suc k) place a = go (eqb (answerAt w ws place .number) 20) refl (calls-cover w ws k (answerAt w ws place .next))
-  where
-    go : (t : Bool) → eqb (answerAt w ws place .number) 20 ≡ t → (length ws - answerAt w ws place .next < k → allWords w ws (answers w ws k (answerAt w ws place .next)) ≡ drop (answerAt w ws place .next) ws) → standsFor w ws (answerAt w ws place) ++ allWords w ws (cond t [] (answers w ws k (answerAt w ws place .next))) ≡ drop place ws
-    go true e more = append-nil _ ∙ stands-end w ws place (eqb-true (answerAt w ws place .number) 20 e)
-    go false e more =
-        let on = moves-on w ws place e in
-        ap (λ (l : List ℕ). standsFor w ws (answerAt w ws place) ++ l) (more (omega (arith, on .0, on .1))) ∙ stands-for w ws place e
-
 pub walk-covers : (w : Widths) (ws : List ℕ) → allWords w ws (walk w ws) ≡ ws
-unfolding walk
-walk-covers w ws = calls-cover w ws (suc (length ws)) 0 (omega arith)
+unfolding walk allWords
+walk-covers w ws =
+    by-calls w ws (λ (n : ℕ) (l : List Answer). allWords w ws l ≡ drop n ws)
+    (λ n e. append-nil (standsFor w ws (answerAt w ws n)) ∙ stands-end w ws n (eqb-true (answerAt w ws n .number) 20 e))
+    (λ n rest e more. ap (λ (l : List ℕ). standsFor w ws (answerAt w ws n) ++ l) more ∙ stands-for w ws n e)
+    (suc (length ws))
+    0
+    (omega arith)
