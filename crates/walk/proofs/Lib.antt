@@ -2,5 +2,6 @@
 pub mod Answers
 pub mod BoundaryLaws
 pub mod Damage
+pub mod FlipLaws
 pub mod Flipped
 pub mod Whole

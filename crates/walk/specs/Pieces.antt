@@ -1,6 +1,6 @@
 -- Document 02, Wish 1, a second time: where a gap ends by places and numbers alone, each kind of answer field by field, what words the answers of
 -- a walk stand for, and captures that are laid out piece by piece. Of the first statement only what an answer is stands in it.
-use Prim.Native.Nat.{ℕ, suc, _+_, _-_, _≤_, _<_}
+use Prim.Native.Nat.{ℕ, zero, suc, _+_, _-_, _*_, _/_, _%_, _≤_, _<_}
 use mathlib.Core.Path.{_≡_}
 use mathlib.Core.Bool.{Bool, true, false, cond}
 use mathlib.Core.List.{List, [], _∷_, _++_}
@@ -100,3 +100,8 @@ unfoldable pub soundOf : List Piece → List Sample
 soundOf [] = []
 soundOf (sound s ∷ ps) = s ∷ soundOf ps
 soundOf (damaged ws ∷ ps) = soundOf ps
+
+-- "A flaky serial cable flips bits": a number with its bit i flipped, bit 0 the lowest
+unfoldable pub flip : ℕ → ℕ → ℕ
+flip zero x = x + 1 - 2 * (x % 2)
+flip (suc i) x = x % 2 + 2 * flip i (x / 2)
