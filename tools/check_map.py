@@ -24,7 +24,7 @@ Of WRONG-PROGRAMS:
 Of the files themselves:
 - Every old text of an edit or version occurs as often as it has to in the file
   that it changes.
-- No public function of a library crate has a `requires`.
+- No public function has a `requires`, of a program neither.
 
 Faults are listed, and the status is 1; else one line says what was checked.
 """
@@ -248,14 +248,17 @@ def check_public(programs, public, known):
     return faults
 
 
-def check_asks(public, inside):
-    """The public functions that ask something of their caller."""
-    return [
-        f"{path}: the public function {'::'.join(here)} asks something of its caller"
-        for path, lines in inside.items()
-        for line, here in zip(text_of(path).split("\n"), lines)
-        if here and "::".join(here) in public and re.search(r"\brequires\s*\{", line)
-    ]
+def check_asks(inside):
+    """The public functions, those of programs too, that ask something of their caller."""
+    faults = []
+    for path, lines in inside.items():
+        public = set()
+        for line, here in zip(text_of(path).split("\n"), lines):
+            if re.match(r" *pub fn ", line):
+                public.add(here)
+            if here in public and re.search(r"\brequires\s*\{", line):
+                faults.append(f"{path}: the public function {'::'.join(here)} asks something of its caller")
+    return faults
 
 
 def main():
@@ -267,7 +270,7 @@ def main():
     more, others = check_names(PROGRAMS, programs, declared, paths, known)
     words, long = check_words(page)
     faults += others + long + check_sizes(page) + check_edits(page, known, inside) + check_versions(page)
-    faults += check_public(programs, public, known) + check_asks(public, inside)
+    faults += check_public(programs, public, known) + check_asks(inside)
     for fault in faults:
         print(fault)
     if faults:

@@ -2,11 +2,11 @@
 use samples::edition::Edition;
 use samples::sample::Sample;
 use samples::writer::write;
-ghost use Prim.Native.Nat.{_≤_, _<_};
+ghost use Prim.Native.Nat.{_≤_};
 ghost use lib.ListN.{length};
 
 // Where the second sample starts, the Resource sample: the length of a Trace sample.
-pub fn second(edition: Edition) -> usize
+pub fn second_start(edition: Edition) -> usize
     ensures { λ r. ⌜ r ≤ 20 ⌝ }
 {
     match edition {
@@ -15,7 +15,8 @@ pub fn second(edition: Edition) -> usize
     }
 }
 
-pub fn third(edition: Edition) -> usize
+// The third, and the fourth.
+pub fn third_start(edition: Edition) -> usize
     ensures { λ r. ⌜ (96 ≤ r) × (r ≤ 104) ⌝ }
 {
     match edition {
@@ -24,7 +25,7 @@ pub fn third(edition: Edition) -> usize
     }
 }
 
-pub fn fourth(edition: Edition) -> usize
+pub fn fourth_start(edition: Edition) -> usize
     ensures { λ r. ⌜ r ≤ 124 ⌝ }
 {
     match edition {
@@ -33,7 +34,8 @@ pub fn fourth(edition: Edition) -> usize
     }
 }
 
-pub fn end(edition: Edition) -> usize
+// How many words they have together.
+pub fn length(edition: Edition) -> usize
     ensures { λ r. ⌜ (128 ≤ r) × (r ≤ 144) ⌝ }
 {
     match edition {
@@ -52,9 +54,9 @@ pub fn good(edition: Edition) -> [u16; 144] {
     let second_one = sample(9, 6, 4, 259, counters);
     let mut words = [65535u16; 144];
     put(edition, first, &mut words, 0);
-    put(edition, second_one, &mut words, second(edition));
-    put(edition, third_one, &mut words, third(edition));
-    put(edition, fourth_one, &mut words, fourth(edition));
+    put(edition, second_one, &mut words, second_start(edition));
+    put(edition, third_one, &mut words, third_start(edition));
+    put(edition, fourth_one, &mut words, fourth_start(edition));
     words
 }
 
@@ -75,18 +77,20 @@ fn put(edition: Edition, sample: Sample, words: &mut [u16], start: usize)
     write(edition, sample, &mut words[start..]);
 }
 
-pub fn with_word(words: [u16; 144], place: usize, word: u16) -> [u16; 144]
-    requires { ⌜ place < 144 ⌝ }
-{
+// With another word at a place of the buffer; past it nothing changes.
+pub fn with_word(words: [u16; 144], place: usize, word: u16) -> [u16; 144] {
     let mut changed = words;
-    changed[place] = word;
+    if place < 144 {
+        changed[place] = word;
+    }
     changed
 }
 
-// With bits of one word flipped.
-pub fn flipped(words: [u16; 144], place: usize, bits: u16) -> [u16; 144]
-    requires { ⌜ place < 144 ⌝ }
-{
-    let word = words[place];
-    with_word(words, place, word ^ bits)
+// With bits of one word flipped, likewise.
+pub fn flipped(words: [u16; 144], place: usize, bits: u16) -> [u16; 144] {
+    let mut changed = words;
+    if place < 144 {
+        changed[place] = words[place] ^ bits;
+    }
+    changed
 }

@@ -2,7 +2,6 @@
 use super::captures;
 use super::walking;
 use samples::edition::Edition;
-ghost use Prim.Native.Nat.{_<_};
 
 // The bits that a damage flips.
 const ABOVE: u16 = 1024;
@@ -16,17 +15,15 @@ const HEADER: u16 = 256 + 32;
 
 // Damage to the Resource sample's first word, to one among its counters, and to its last.
 fn each_place(edition: Edition, bits: u16, first: &[u8], middle: &[u8], last: &[u8]) {
-    let start = captures::second(edition);
-    one(edition, first, start, bits);
-    one(edition, middle, start + 30, bits);
-    one(edition, last, captures::third(edition) - 1, bits);
+    let start = captures::second_start(edition);
+    one_damaged(edition, first, start, bits);
+    one_damaged(edition, middle, start + 30, bits);
+    one_damaged(edition, last, captures::third_start(edition) - 1, bits);
 }
 
 // One damaged word.
-fn one(edition: Edition, name: &[u8], place: usize, bits: u16)
-    requires { ⌜ place < 144 ⌝ }
-{
-    all(
+fn one_damaged(edition: Edition, name: &[u8], place: usize, bits: u16) {
+    whole_capture(
         edition,
         name,
         captures::flipped(captures::good(edition), place, bits),
@@ -34,8 +31,8 @@ fn one(edition: Edition, name: &[u8], place: usize, bits: u16)
 }
 
 // The whole capture.
-fn all(edition: Edition, name: &[u8], words: [u16; 144]) {
-    walking::first(edition, name, words, captures::end(edition), 0);
+fn whole_capture(edition: Edition, name: &[u8], words: [u16; 144]) {
+    walking::over_first(edition, name, words, captures::length(edition), 0);
 }
 
 // The numbers 21 to 24.
@@ -54,7 +51,12 @@ pub fn numbers(edition: Edition) {
         b"parity, middle",
         b"parity, last",
     );
-    one(edition, b"header bit 5", captures::second(edition), HEADER);
+    one_damaged(
+        edition,
+        b"header bit 5",
+        captures::second_start(edition),
+        HEADER,
+    );
     each_place(
         edition,
         MARK,
@@ -66,21 +68,21 @@ pub fn numbers(edition: Edition) {
 
 // What ends a gap, and what is read after it: the last words of a damaged Resource sample may be a whole Trace sample.
 pub fn boundaries(edition: Edition) {
-    let second = captures::second(edition);
-    one(
+    let second = captures::second_start(edition);
+    one_damaged(
         edition,
         b"rest is a sample",
-        captures::third(edition) - 1 - second,
+        captures::third_start(edition) - 1 - second,
         MARK,
     );
     let bad = captures::flipped(captures::good(edition), second + 30, PARITY);
     let large = captures::with_word(bad, second + 40, 1536);
-    all(
+    whole_capture(
         edition,
         b"large words are no boundary",
         captures::with_word(large, second + 50, 65535),
     );
-    all(
+    whole_capture(
         edition,
         b"boundary of bad parity",
         captures::with_word(bad, second + 40, 512),
@@ -89,36 +91,36 @@ pub fn boundaries(edition: Edition) {
 
 // A gap that ends with the capture.
 pub fn up_to_the_end(edition: Edition) {
-    let fourth = captures::fourth(edition);
+    let fourth = captures::fourth_start(edition);
     let bad = captures::flipped(captures::good(edition), fourth + 5, PARITY);
-    walking::first(edition, b"no boundary", bad, fourth + 10, 0);
-    all(edition, b"boundary at the end", bad);
-    one(
+    walking::over_first(edition, b"no boundary", bad, fourth + 10, 0);
+    whole_capture(edition, b"boundary at the end", bad);
+    one_damaged(
         edition,
         b"no end mark at the end",
-        captures::end(edition) - 1,
+        captures::length(edition) - 1,
         MARK,
     );
 }
 
 // Gaps in a row, and the words 768, 512 and 544, each a gap by itself: by its end mark, its parity and its header.
-pub fn several(edition: Edition) {
+pub fn in_a_row(edition: Edition) {
     let good = captures::good(edition);
-    let third = captures::third(edition);
-    let once = captures::flipped(good, captures::second(edition) + 30, PARITY);
-    all(
+    let third = captures::third_start(edition);
+    let once = captures::flipped(good, captures::second_start(edition) + 30, PARITY);
+    whole_capture(
         edition,
         b"two gaps",
         captures::flipped(once, third + 5, ABOVE),
     );
     let mark = captures::with_word(good, third, 768);
     let parity = captures::with_word(mark, third + 1, 512);
-    all(
+    whole_capture(
         edition,
         b"gaps of one word",
         captures::with_word(parity, third + 2, 544),
     );
-    walking::first(
+    walking::over_first(
         edition,
         b"one large word",
         captures::with_word(good, 0, 65535),

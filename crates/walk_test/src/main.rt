@@ -17,7 +17,7 @@ fn cases(edition: Edition, other: Edition) {
     damage::numbers(edition);
     damage::boundaries(edition);
     damage::up_to_the_end(edition);
-    damage::several(edition);
+    damage::in_a_row(edition);
     places::middle(edition);
     places::end(edition);
     places::cut(edition);

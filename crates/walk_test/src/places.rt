@@ -7,11 +7,11 @@ const MAX: usize = 18446744073709551615;
 
 // A Trace, a Resource and a Trace sample.
 pub fn whole(edition: Edition) {
-    walking::first(
+    walking::over_first(
         edition,
         b"whole",
         captures::good(edition),
-        captures::fourth(edition),
+        captures::fourth_start(edition),
         0,
     );
 }
@@ -22,47 +22,47 @@ pub fn middle(edition: Edition) {
     from(
         edition,
         b"from a Resource sample's middle",
-        captures::second(edition) + 30,
+        captures::second_start(edition) + 30,
     );
 }
 
 fn from(edition: Edition, name: &[u8], start: usize) {
-    walking::first(
+    walking::over_first(
         edition,
         name,
         captures::good(edition),
-        captures::end(edition),
+        captures::length(edition),
         start,
     );
 }
 
 // At the end and past it.
 pub fn end(edition: Edition) {
-    let end = captures::end(edition);
+    let end = captures::length(edition);
     from(edition, b"end", end);
     from(edition, b"past the end", end + 1);
     from(edition, b"past the end", MAX);
     let good = captures::good(edition);
-    walking::first(edition, b"empty", good, 0, 0);
-    walking::first(edition, b"empty", good, 0, 5);
+    walking::over_first(edition, b"empty", good, 0, 0);
+    walking::over_first(edition, b"empty", good, 0, 5);
 }
 
 // A capture that ends inside a sample.
 pub fn cut(edition: Edition) {
     let good = captures::good(edition);
-    let third = captures::third(edition);
-    walking::first(edition, b"cut Trace", good, third + 8, 0);
-    walking::first(edition, b"cut Trace", good, third + 8, third + 4);
-    walking::first(edition, b"cut Resource", good, third - 1, 0);
+    let third = captures::third_start(edition);
+    walking::over_first(edition, b"cut Trace", good, third + 8, 0);
+    walking::over_first(edition, b"cut Trace", good, third + 8, third + 4);
+    walking::over_first(edition, b"cut Resource", good, third - 1, 0);
 }
 
 // A capture of the other edition's samples.
 pub fn other_edition(edition: Edition, other: Edition) {
-    walking::first(
+    walking::over_first(
         edition,
         b"other edition",
         captures::good(other),
-        captures::end(other),
+        captures::length(other),
         0,
     );
 }

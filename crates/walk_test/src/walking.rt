@@ -3,13 +3,11 @@ use super::show;
 use samples::edition::Edition;
 use samples::reader::verdict_number;
 use walk::at;
-ghost use Prim.Native.Nat.{_≤_};
+use words::size::least;
 
-// Over the first `count` words.
-pub fn first(edition: Edition, name: &[u8], words: [u16; 144], count: usize, start: usize)
-    requires { ⌜ count ≤ 144 ⌝ }
-{
-    walk_on(edition, name, &words[0..count], start);
+// Over the first `count` words, or all of them if there are fewer.
+pub fn over_first(edition: Edition, name: &[u8], words: [u16; 144], count: usize, start: usize) {
+    walk_on(edition, name, &words[0..least(count, 144)], start);
 }
 
 // A line for each sample and each gap, and one for the end.
