@@ -16,10 +16,10 @@ use Rattle.words.specs.Word.{byteOf, marked, oddOnes, tooLarge, wordOf}
 use Rattle.words.proofs.WordLaws.{word-back}
 use Rattle.samples.specs.Layout.{Widths, resource, sampleBytes, sampleLength, sampleWords}
 use Rattle.samples.specs.Write.{writable}
-use Rattle.samples.specs.Read.{Found, faultAt, foundBy, isGood, readPart, sampleOf, verdictNumber, wanted}
+use Rattle.samples.specs.Read.{Found, foundBy, isGood, readPart, sampleOf, verdictNumber, wanted}
 use Rattle.samples.specs.declared.sample.Sample.{Sample}
 use Rattle.samples.specs.declared.reader.Verdict.the-variants.{Good}
-use Rattle.samples.proofs.Numbers.{GoodBelow, Part, Reached, broken, broken-told, fault-numbers, faultIn, number-good, one-of-three, reads-0, reads-20, unfinished, unfinished-told, whole, whole-told}
+use Rattle.samples.proofs.Numbers.{GoodBelow, Part, Reached, broken, broken-told, fault-numbers, faultIn, number-good, one-of-three, reads-0, reads-20, same-faults, same-wanted, unfinished, unfinished-told, whole, whole-told}
 use Rattle.samples.proofs.ReadLaws.{map-below}
 use Rattle.samples.proofs.RoundTrip.{bytes-back, sixteen-fit, word-passed}
 use Rattle.samples.proofs.SampleLaws.{sample-length, sample-word}
@@ -81,11 +81,11 @@ module _ (w : Widths) (ws rest : List ℕ) (large : 21 ≤ readPart w ws .number
   there : p < length ws
   there = place-fault w ws large .0 .there
 
-  same-wanted : wanted w (ws ++ rest) ≡ wanted w ws
-  same-wanted = ap (λ (x : ℕ). sampleLength w (resource (byteOf x))) (List·getD-append ws rest 0 0 (omega (arith, there)))
+  kept : (j : ℕ) → j < suc p → getD (ws ++ rest) j 0 ≡ getD ws j 0
+  kept j h = List·getD-append ws rest 0 j (omega (arith, there))
 
-  same-fault : (j : ℕ) → j ≤ p → faultIn w (ws ++ rest) j ≡ faultIn w ws j
-  same-fault j h = λ i. faultAt (same-wanted i) j (List·getD-append ws rest 0 j (omega (arith, there)) i)
+  fault-kept : (j : ℕ) → j < suc p → faultIn w (ws ++ rest) j ≡ faultIn w ws j
+  fault-kept = same-faults w (ws ++ rest) ws (suc p) kept
 
   pub after-bad : (readPart w (ws ++ rest) .number ≡ readPart w ws .number) × (readPart w (ws ++ rest) .place ≡ readPart w ws .place)
   after-bad =
@@ -93,13 +93,13 @@ module _ (w : Widths) (ws rest : List ℕ) (large : 21 ≤ readPart w ws .number
       let reached : Reached w (ws ++ rest) p =
       record {
         there = omega (arith, there, length-append ws rest);
-        inside = subst (λ (n : ℕ). p < n) (sym same-wanted) (fault .0 .inside);
-        before = λ j h. ap isGood (same-fault j (omega arith)) ∙ fault .0 .before j h;
+        inside = subst (λ (n : ℕ). p < n) (sym (same-wanted w (ws ++ rest) ws (suc p) kept (omega arith))) (fault .0 .inside);
+        before = λ j h. ap isGood (fault-kept j (omega arith)) ∙ fault .0 .before j h;
       } in
       let bad : isGood (faultIn w (ws ++ rest) p) ≡ false =
-      ap isGood (same-fault p (omega arith)) ∙ number-good (faultIn w ws p) ∙ ne-eqb (verdictNumber (faultIn w ws p)) 0 (λ e. omega (arith, e, fault .1, large)) in
+      ap isGood (fault-kept p (omega arith)) ∙ number-good (faultIn w ws p) ∙ ne-eqb (verdictNumber (faultIn w ws p)) 0 (λ e. omega (arith, e, fault .1, large)) in
       let told = broken-told w (ws ++ rest) p reached bad in
-      (told .0 ∙ ap verdictNumber (same-fault p (omega arith)) ∙ fault .1, told .1)
+      (told .0 ∙ ap verdictNumber (fault-kept p (omega arith)) ∙ fault .1, told .1)
 
 -- ---- by the writer
 
@@ -125,10 +125,6 @@ module _ (w : Widths) (s : Sample) (fit : writable w s ≡ true) where
   pub written-wanted : wanted w words ≡ sampleLength w (resource (s .header))
   written-wanted = sym (whole-told w words (written-whole .0) (written-whole .1) .1) ∙ ap (λ (f : Found). f .place) written-read
 
--- a part wants as many words as a sample that it starts with
-starts-wanted : (w : Widths) (ws : List ℕ) (k : ℕ) (st : Starts w ws k) → 0 < k → wanted w ws ≡ wanted w (sampleWords w (st .sample))
-starts-wanted w ws k st some = ap (λ (x : ℕ). sampleLength w (resource (byteOf x))) (st .same 0 some)
-
 -- no sample that the writer takes starts with more words of the part
 pub place-most : (w : Widths) (ws : List ℕ) (k : ℕ) → Starts w ws k → k ≤ readPart w ws .place
 place-most w ws k st = at-place w ws (λ (m : ℕ). k ≤ m) (λ p r bad. decides p bad (ltb p k) refl) (λ few good. st .there) (λ enough good. all k refl)
@@ -140,7 +136,7 @@ place-most w ws k st = at-place w ws (λ (m : ℕ). k ≤ m) (λ p r bad. decide
     short = subst (λ (m : ℕ). k ≤ m) (sample-length w s (sixteen-fit w s (st .fits)) ∙ sym (written-wanted w s (st .fits))) (st .long)
 
     below : (p : ℕ) → p < k → isGood (faultIn w ws p) ≡ true
-    below p h = (λ i. isGood (faultAt (starts-wanted w ws k st (omega arith) i) p (st .same p h i))) ∙ written-whole w s (st .fits) .1 p (lt-of-lt-of-le h short)
+    below p h = ap isGood (same-faults w ws (sampleWords w s) k (st .same) p h) ∙ written-whole w s (st .fits) .1 p (lt-of-lt-of-le h short)
 
     decides : (p : ℕ) → isGood (faultIn w ws p) ≡ false → (t : Bool) → ltb p k ≡ t → k ≤ p
     decides p bad true e = absurd (false≢true (sym bad ∙ below p (ltb-true p k e)))
@@ -148,7 +144,7 @@ place-most w ws k st = at-place w ws (λ (m : ℕ). k ≤ m) (λ p r bad. decide
 
     all : (m : ℕ) → m ≡ k → k ≤ wanted w ws
     all zero e = omega arith
-    all (suc m) e = subst (λ (x : ℕ). k ≤ x) (sym (starts-wanted w ws k st (omega arith))) short
+    all (suc m) e = subst (λ (x : ℕ). k ≤ x) (sym (same-wanted w ws (sampleWords w s) k (st .same) (omega arith))) short
 
 -- Words that are good in their places start a sample: with words of zeros after them they give it.
 module _ (w : Widths) (ws : List ℕ) where
@@ -176,7 +172,7 @@ module _ (w : Widths) (ws : List ℕ) where
 
     -- of the words wanted, unless there are none
     given-size : 0 < p → size ≡ wanted w ws
-    given-size some = read-size w (filled p) ∙ ap (λ (x : ℕ). sampleLength w (resource (byteOf x))) (filled-at p 0 there some)
+    given-size some = read-size w (filled p) ∙ same-wanted w (filled p) ws p (λ j. filled-at p j there) some
 
     kind-long : (r : Bool) → sampleLength w r ≤ sampleLength w true
     kind-long true = omega arith

@@ -180,6 +180,14 @@ faultIn w ws p = faultAt (wanted w ws) p (getD ws p 0)
 abbrev pub GoodBelow : Widths → List ℕ → ℕ → Type 0
 GoodBelow w ws p = (j : ℕ) → j < p → isGood (faultIn w ws j) ≡ true
 
+-- two parts with the same words below a place want as many, unless that is the first, and have the same faults there
+module _ (w : Widths) (ws vs : List ℕ) (p : ℕ) (same : (j : ℕ) → j < p → getD ws j 0 ≡ getD vs j 0) where
+  pub same-wanted : 0 < p → wanted w ws ≡ wanted w vs
+  same-wanted some = ap (λ (x : ℕ). sampleLength w (resource (byteOf x))) (same 0 some)
+
+  pub same-faults : (j : ℕ) → j < p → faultIn w ws j ≡ faultIn w vs j
+  same-faults j h = λ i. faultAt (same-wanted (omega arith) i) j (same j h i)
+
 -- a place of the part and of its sample, with no bad word before it
 pub record Reached (w : Widths) (ws : List ℕ) (p : ℕ) : Type 0 where
   pub there : p < length ws

@@ -17,7 +17,7 @@ use Rattle.samples.proofs.Decided.{after-bad, place-fault}
 use Rattle.samples.proofs.RoundTrip.{sixteen-fit}
 use Rattle.samples.proofs.SampleLaws.{sample-length}
 use Rattle.samples.proofs.Theorems.{read-written}
-use Rattle.walk.specs.Pieces.{AllFit, Boundary, Damaged, EndsAt, Fit, Piece, damaged, endAnswer, gapAnswer, laid, moved, pieceAnswer, pieceAnswers, pieceWords, sampleAnswer, samplesOf, sound, soundOf}
+use Rattle.walk.specs.Pieces.{AllFit, Boundary, Damaged, EndsAt, Fit, Piece, damaged, endAnswer, gapAnswer, gapBetween, laid, moved, pieceAnswer, pieceAnswers, pieceWords, sampleAnswer, samplesOf, sound, soundOf}
 use Rattle.walk.specs.Walk.{Answer, afterBoundary, answerAt, answers, walk}
 use Rattle.walk.proofs.Answers.{answer-behind, answer-gap, answer-sample, moves-on, past-end}
 use Rattle.walk.proofs.BoundaryLaws.{after-ends, ends-only}
@@ -201,17 +201,19 @@ module _ (w : Widths) where
   fit-append (p ∷ ps) qs f g = (f .0, fit-append ps qs (f .1) g)
 
 -- the samples before, one gap as long as the stretch, and every sample after
-pub walk-damage : (w : Widths) (before after : List Sample) (ws : List ℕ) → AllFit w (map sound before) → Damaged w ws → AllFit w (map sound after) → let b = length (laid w (map sound before)) in let capture = laid w (map sound before) ++ (ws ++ laid w (map sound after)) in walk w capture ≡ pieceAnswers w 0 (map sound before) ++ (gapAnswer (readPart w ws .number) b (b + readPart w ws .place) (length ws) ∷ pieceAnswers w (b + length ws) (map sound after)) ++ (endAnswer (length capture) (length capture) ∷ [])
-unfolding laid pieceAnswers
+pub walk-damage : (w : Widths) (before after : List Sample) (ws : List ℕ) → AllFit w (map sound before) → Damaged w ws → AllFit w (map sound after) → walk w (laid w (map sound before) ++ (ws ++ laid w (map sound after))) ≡ gapBetween w before (readPart w ws .number) (readPart w ws .place) (length ws) after
+unfolding laid pieceAnswers gapBetween
 walk-damage w before after ws f d g =
     let front : List Piece = map sound before in
     let behind : List Piece = damaged ws ∷ map sound after in
     let same : laid w (front ++ behind) ≡ laid w front ++ laid w behind = laid-append w front behind in
+    let end : length (laid w (front ++ behind)) ≡ length (laid w front) + length ws + length (laid w (map sound after)) =
+    ap length same ∙ omega (arith, length-append (laid w front) (ws ++ laid w (map sound after)), length-append ws (laid w (map sound after))) in
     ap (walk w) (sym same)
     ∙ walk-laid w (front ++ behind) (fit-append w front behind f (d, g))
     ∙ ap₂ (λ (l : List Answer) (n : ℕ). l ++ (endAnswer n n ∷ []))
     (answers-append w 0 front behind ∙ ap (λ (k : ℕ). pieceAnswers w 0 front ++ pieceAnswers w k behind) (zero-add (length (laid w front))))
-    (ap length same)
+    end
 
 -- every sample is given, whatever stands between them
 samples-given : (w : Widths) (n end : ℕ) (ps : List Piece) → AllFit w ps → samplesOf (pieceAnswers w n ps ++ (endAnswer end end ∷ [])) ≡ soundOf ps

@@ -6,23 +6,23 @@ use Prim.Native.Nat.{ℕ, zero, suc, _+_, _-_, _≤_, _<_}
 use native.Mathlib.Omega.{arith}
 use mathlib.Core.Path.{_≡_, refl, sym, ap, _∙_, subst}
 use mathlib.Core.Bool.{Bool, true, false}
-use mathlib.Core.List.{List, [], _∷_, _++_, map}
+use mathlib.Core.List.{List, _++_, map}
 use lib.Dec.{eqb}
 use lib.ListN.{getD, length, set, length-set}
 use lib.Seq.{getD-set-other, getD-set-same}
 use borrow.Author.Tests.{eq-eqb, eqb-false, eqb-true, le-ltb, ltb-false, ne-eqb}
-use Rattle.words.specs.Word.{byteOf, marked, oddOnes, tooLarge}
-use Rattle.samples.specs.Layout.{Widths, resource, sampleLength, sampleWords}
+use Rattle.words.specs.Word.{marked, oddOnes, tooLarge}
+use Rattle.samples.specs.Layout.{Widths, sampleWords}
 use Rattle.samples.specs.Read.{faultAt, isGood, readPart, verdictNumber, wanted}
 use Rattle.samples.specs.Write.{writable}
 use Rattle.samples.specs.declared.sample.Sample.{Sample}
 use Rattle.samples.specs.declared.reader.Verdict.the-variants.{Parity}
 use Rattle.samples.proofs.Decided.{written-wanted, written-whole}
-use Rattle.samples.proofs.Numbers.{Reached, broken-told, faultIn}
+use Rattle.samples.proofs.Numbers.{Reached, broken-told, faultIn, same-faults, same-wanted}
 use Rattle.samples.proofs.ReadLaws.{fault-by}
 use Rattle.samples.proofs.RoundTrip.{sixteen-fit, word-passed}
 use Rattle.samples.proofs.SampleLaws.{sample-length}
-use Rattle.walk.specs.Pieces.{AllFit, Boundary, Damaged, endAnswer, flip, gapAnswer, laid, pieceAnswers, sound}
+use Rattle.walk.specs.Pieces.{AllFit, Boundary, Damaged, flip, gapBetween, laid, sound}
 use Rattle.walk.specs.Walk.{walk}
 use Rattle.walk.proofs.BoundaryLaws.{boundary-by, boundary-range, unmarked}
 use Rattle.walk.proofs.Damage.{walk-damage}
@@ -61,15 +61,12 @@ module _ (w : Widths) (s : Sample) (fit : writable w s ≡ true) where
     other : (i : ℕ) → i < j → getD changed i 0 ≡ getD words i 0
     other i h = getD-set-other words j i x 0 (λ e. omega (arith, e, h))
 
-    same-wanted : 0 < j → wanted w changed ≡ wanted w words
-    same-wanted some = ap (λ (y : ℕ). sampleLength w (resource (byteOf y))) (other 0 some)
-
     before : (k : ℕ) → k < j → isGood (faultIn w changed k) ≡ true
-    before k h = (λ i. isGood (faultAt (same-wanted (omega arith) i) k (other k h i))) ∙ good k (omega arith)
+    before k h = ap isGood (same-faults w changed words j other k h) ∙ good k (omega arith)
 
     inside : (i : ℕ) → i ≡ j → j < wanted w changed
     inside zero e = omega arith
-    inside (suc i) e = subst (λ (n : ℕ). j < n) (sym (same-wanted (omega arith) ∙ size)) there
+    inside (suc i) e = subst (λ (n : ℕ). j < n) (sym (same-wanted w changed words j other (omega arith) ∙ size)) there
 
     long : length changed ≡ length words
     long = length-set words j x
@@ -104,19 +101,12 @@ module _ (w : Widths) (s : Sample) (fit : writable w s ≡ true) where
         no-mark k h = unmarked (getD changed k 0) (word-mark k (omega arith) .1 ∙ ne-eqb (suc k) (length words) (λ e. omega (arith, e, h)))
 
     -- so samples before and after are given, and nothing but this one is skipped
-    pub walk-flipped : (before after : List Sample) → AllFit w (map sound before) → AllFit w (map sound after) → let b = length (laid w (map sound before)) in let n = length (sampleWords w s) in let capture = laid w (map sound before) ++ (set (sampleWords w s) j x ++ laid w (map sound after)) in walk w capture ≡ pieceAnswers w 0 (map sound before) ++ (gapAnswer 22 b (b + j) n ∷ pieceAnswers w (b + n) (map sound after)) ++ (endAnswer (length capture) (length capture) ∷ [])
+    pub walk-flipped : (before after : List Sample) → AllFit w (map sound before) → AllFit w (map sound after) → walk w (laid w (map sound before) ++ (set (sampleWords w s) j x ++ laid w (map sound after))) ≡ gapBetween w before 22 j (length (sampleWords w s)) after
     walk-flipped before after f g =
-        walk-damage w before after changed f flipped-damaged g
-        ∙ (λ i. pieceAnswers w 0 (map sound before) ++ (gapAnswer (flipped-told .0 i) b (b + flipped-told .1 i) (long i) ∷ pieceAnswers w (b + long i) (map sound after)) ++ (endAnswer (length capture) (length capture) ∷ []))
-      where
-        b : ℕ
-        b = length (laid w (map sound before))
-
-        capture : List ℕ
-        capture = laid w (map sound before) ++ (changed ++ laid w (map sound after))
+        walk-damage w before after changed f flipped-damaged g ∙ (λ i. gapBetween w before (flipped-told .0 i) (flipped-told .1 i) (long i) after)
 
   -- a flip of one of bits 0 to 8 does that, in any word of the sample
-  pub walk-bit : (j i : ℕ) → j < length (sampleWords w s) → i < 9 → (before after : List Sample) → AllFit w (map sound before) → AllFit w (map sound after) → let b = length (laid w (map sound before)) in let n = length (sampleWords w s) in let capture = laid w (map sound before) ++ (set (sampleWords w s) j (flip i (getD (sampleWords w s) j 0)) ++ laid w (map sound after)) in walk w capture ≡ pieceAnswers w 0 (map sound before) ++ (gapAnswer 22 b (b + j) n ∷ pieceAnswers w (b + n) (map sound after)) ++ (endAnswer (length capture) (length capture) ∷ [])
+  pub walk-bit : (j i : ℕ) → j < length (sampleWords w s) → i < 9 → (before after : List Sample) → AllFit w (map sound before) → AllFit w (map sound after) → walk w (laid w (map sound before) ++ (set (sampleWords w s) j (flip i (getD (sampleWords w s) j 0)) ++ laid w (map sound after))) ≡ gapBetween w before 22 j (length (sampleWords w s)) after
   walk-bit j i there inside =
       let x : ℕ = getD words j 0 in
       let p = passed j there in

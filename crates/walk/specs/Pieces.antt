@@ -3,7 +3,7 @@
 use Prim.Native.Nat.{ℕ, zero, suc, _+_, _-_, _*_, _/_, _%_, _≤_, _<_}
 use mathlib.Core.Path.{_≡_}
 use mathlib.Core.Bool.{Bool, true, false, cond}
-use mathlib.Core.List.{List, [], _∷_, _++_}
+use mathlib.Core.List.{List, [], _∷_, _++_, map}
 use lib.Dec.{eqb}
 use lib.ListN.{drop, getD, length, take}
 use Rattle.samples.specs.Layout.{Widths, sampleWords, zeroSample}
@@ -90,6 +90,13 @@ pieceAnswer w place (damaged ws) = gapAnswer (readPart w ws .number) place (plac
 unfoldable pub pieceAnswers : Widths → ℕ → List Piece → List Answer
 pieceAnswers w place [] = []
 pieceAnswers w place (p ∷ ps) = pieceAnswer w place p ∷ pieceAnswers w (place + length (pieceWords w p)) ps
+
+-- what is due for samples, then one gap of n words whose word p is bad, then samples: each of them, the gap, and 20 at the end
+unfoldable pub gapBetween : Widths → List Sample → ℕ → ℕ → ℕ → List Sample → List Answer
+gapBetween w before number p n after =
+    let b = length (laid w (map sound before)) in
+    let end = b + n + length (laid w (map sound after)) in
+    pieceAnswers w 0 (map sound before) ++ (gapAnswer number b (b + p) n ∷ pieceAnswers w (b + n) (map sound after)) ++ (endAnswer end end ∷ [])
 
 -- the samples of answers, and of pieces
 unfoldable pub samplesOf : List Answer → List Sample
