@@ -2,7 +2,7 @@
 -- phase, the Timestamp or a list, and those have laws of their own. So no chain of operations from a fresh chip meets reply 15. Assumes
 -- nothing.
 use Prim.Native.Nat.{ℕ, zero, suc, _+_, _%_, _^_, _<_}
-use native.Mathlib.Nat.{mod-lt, zero-lt-suc}
+use native.Mathlib.Nat.{mod-lt}
 use native.Mathlib.Omega.{arith}
 use mathlib.Core.Path.{_≡_, refl, sym, ap, _∙_, subst}
 use mathlib.Core.Bool.{Bool, true, false, cond, not, _&&_, and-false}
@@ -16,6 +16,7 @@ use Rattle.counters.specs.Bank.{bit, cleared, copied, counting, grown}
 use Rattle.counters.specs.Due.{due, signalled, slowEvents, ticked}
 use Rattle.counters.specs.declared.bank.Bank.{Bank}
 use Rattle.counters.specs.declared.switches.Kind.the-variants.{Slow, External, Software, Node}
+use Rattle.counters.proofs.TickLaws.{divisor-some}
 use Rattle.queue.specs.Queue.{advanced, busy, insideQueue, nextWord, pushed, sendMany, sendQueue}
 use Rattle.queue.specs.declared.queue.Held.{Held}
 use Rattle.queue.specs.declared.queue.Queue.{Queue}
@@ -24,7 +25,7 @@ use Rattle.control.specs.Control.{waited}
 use Rattle.control.specs.Fate.{Fate, isOff, isFiltered, isLost, isTold, isTaken}
 use Rattle.control.specs.declared.control.Control.{Control}
 use Rattle.control.specs.declared.reply.Reply.the-variants.{Lines, NoWord, Wait, Busy, Outside}
-use Rattle.chip.specs.Chip.{afterTicks, done, externalEvents, fateOf, fresh, inside, lineOf, nodeTicks, oneLine, read, readAt, readCounter, replied, sampleNow, send, sendInto, sendNow, takeSample, timestampTicks, trigger, triggerBy, withBank, withControl, withQueue, withStamp, write, writeAt}
+use Rattle.chip.specs.Chip.{afterTicks, done, externalEvents, fateOf, fresh, inside, lineOf, nodeTicks, oneLine, read, readAt, readCounter, replied, sampleNow, send, sendInto, sendNow, takeSample, timestampTicks, trigger, triggerBy, withBank, withChoice, withControl, withQueue, withStamp, write, writeAt}
 use Rattle.chip.specs.Operation.{Operation, opReset, opWrite, opRead, opTicks, opNodes, opEvents, opSend, opFill, step}
 use Rattle.chip.specs.Place.{placeOf}
 use Rattle.chip.specs.Repeat.{repeat}
@@ -34,7 +35,7 @@ use Rattle.chip.specs.Told.{Told}
 use Rattle.chip.specs.declared.chip.Chip.{Chip}
 use Rattle.chip.specs.declared.place.Place.{Place}
 use Rattle.chip.specs.declared.place.Place.the-variants.{Beyond, Nowhere, Reset, Csr, Timestamp, Filter, Waits, Overruns, Mux, Clear, Enable, Disable, Source, Counter, Trigger}
-use Rattle.chip.proofs.ChipLaws.{by-bounds, inside-by, inside-phase, inside-queue, inside-stamp}
+use Rattle.chip.proofs.ChipLaws.{by-bounds, either, inside-by, inside-phase, inside-queue, inside-stamp}
 use Rattle.chip.proofs.Replies.{reply-15}
 use Rattle.chip.proofs.Resets.{reset-record}
 use Rattle.chip.proofs.WidthLaws.{each-within, within-set}
@@ -63,11 +64,11 @@ fresh-shaped = record { places = refl; sources = refl; values = refl; shadows = 
 -- ---- "and every operation keeps them"
 
 -- a statement on the next record
-guarded-keeps : (P : Chip → Type 0) (b : Bool) (c : Chip) (a : Told) → P c → P (a .chip) → P (cond b a (replied Outside c) .chip)
+pub guarded-keeps : (P : Chip → Type 0) (b : Bool) (c : Chip) (a : Told) → P c → P (a .chip) → P (cond b a (replied Outside c) .chip)
 guarded-keeps P b c a p q = by-bounds (λ t x. P (x .chip)) b c a q p
 
 -- a trigger keeps what a lost one, one told to wait and a taken one keep
-trigger-keeps : (P : Chip → Type 0) (r o : Bool) (f : Fate) (line bits : ℕ) (c : Chip) → P c → ((k : Control) → P (withControl k c)) → P (takeSample r line bits c) → P (cond o (triggerBy f r line bits c) (replied Lines c) .chip)
+pub trigger-keeps : (P : Chip → Type 0) (r o : Bool) (f : Fate) (line bits : ℕ) (c : Chip) → P c → ((k : Control) → P (withControl k c)) → P (takeSample r line bits c) → P (cond o (triggerBy f r line bits c) (replied Lines c) .chip)
 unfolding triggerBy
 trigger-keeps P r false f line bits c p k t = p
 trigger-keeps P r true isOff line bits c p k t = p
@@ -77,7 +78,7 @@ trigger-keeps P r true isTold line bits c p k t = k _
 trigger-keeps P r true isTaken line bits c p k t = t
 
 -- a read keeps what a record with another Wait Counter and one with a copy in the shadows keep
-read-keeps : (P : Chip → Type 0) (p : Place) (c : Chip) → P c → ((k : Control) → P (withControl k c)) → P (withBank (copied (c .bank)) c) → P (readAt p c .chip)
+pub read-keeps : (P : Chip → Type 0) (p : Place) (c : Chip) → P c → ((k : Control) → P (withControl k c)) → P (withBank (copied (c .bank)) c) → P (readAt p c .chip)
 unfolding readAt readCounter
 read-keeps P Beyond c h k s = h
 read-keeps P Nowhere c h k s = h
@@ -105,7 +106,7 @@ write-inside : (p : Place) (bits lines : ℕ) (c : Chip) → inside c ≡ true �
 unfolding writeAt trigger
 write-inside Beyond bits lines c h = h
 write-inside Nowhere bits lines c h = h
-write-inside Reset bits lines c h = ap inside (reset-record c) ∙ inside-by (withStamp (c .stamp) fresh) refl (omega arith) (inside-stamp c h)
+write-inside Reset bits lines c h = ap inside (reset-record c) ∙ inside-by (withStamp (c .stamp) (withChoice (c .switches .hundredth) fresh)) refl (divisor-some (c .switches .hundredth)) (inside-stamp c h)
 write-inside Csr bits lines c h = h
 write-inside Timestamp bits lines c h = h
 write-inside Filter bits lines c h = h
@@ -123,14 +124,14 @@ write-inside (Trigger r level) bits lines c h =
 
 pub keeps-inside : (op : Operation) (c : Chip) → inside c ≡ true → inside (step op c .chip) ≡ true
 unfolding write read timestampTicks nodeTicks externalEvents send sendInto sendMany
-keeps-inside opReset c h = refl
+keeps-inside (opReset hundredth) c h = inside-by (withChoice hundredth fresh) refl (divisor-some hundredth) (omega arith)
 keeps-inside (opWrite a bits lines) c h =
     guarded-keeps (λ d. inside d ≡ true) (inside c) c (writeAt (placeOf a) bits lines c) h (write-inside (placeOf a) bits lines c h)
 keeps-inside (opRead a) c h =
     guarded-keeps (λ d. inside d ≡ true) (inside c) c (readAt (placeOf a) c) h (read-keeps (λ d. inside d ≡ true) (placeOf a) c h (λ k. h) h)
 keeps-inside (opTicks k) c h =
     guarded-keeps (λ d. inside d ≡ true) (inside c) c (done 0 (afterTicks k c)) h
-    (inside-by (afterTicks k c) (inside-queue c h) (mod-lt (c .switches .phase + k) (zero-lt-suc 9)) (omega arith))
+    (inside-by (afterTicks k c) (inside-queue c h) (mod-lt (c .switches .phase + k) (divisor-some (c .switches .hundredth))) (omega arith))
 keeps-inside (opNodes k) c h = guarded-keeps (λ d. inside d ≡ true) (inside c) c (done 0 (withBank (ticked Node k (c .switches) (c .bank)) c)) h h
 keeps-inside (opEvents mask) c h = guarded-keeps (λ d. inside d ≡ true) (inside c) c (done 0 (withBank (signalled mask (c .switches) (c .bank)) c)) h h
 keeps-inside opSend c h = guarded-keeps (λ d. inside d ≡ true) (inside c) c (sendNow c) h (go (eqb (c .queue .held) 0) refl)
@@ -210,7 +211,7 @@ write-shaped (Trigger r level) bits lines c s =
 
 pub keeps-shaped : (op : Operation) (c : Chip) → Shaped c → Shaped (step op c .chip)
 unfolding write read timestampTicks nodeTicks externalEvents send sendInto sendMany
-keeps-shaped opReset c s = fresh-shaped
+keeps-shaped (opReset hundredth) c s = fresh-shaped
 keeps-shaped (opWrite a bits lines) c s =
     guarded-keeps Shaped (inside c) c (writeAt (placeOf a) bits lines c) s (write-shaped (placeOf a) bits lines c s)
 keeps-shaped (opRead a) c s =
@@ -223,11 +224,10 @@ keeps-shaped (opNodes k) c s =
 keeps-shaped (opEvents mask) c s =
     guarded-keeps Shaped (inside c) c (done 0 (withBank (signalled mask (c .switches) (c .bank)) c)) s
     (counting-shaped (λ i. bit mask i && due External (c .switches) i) 1 c s)
-keeps-shaped opSend c s = guarded-keeps Shaped (inside c) c (sendNow c) s (go (eqb (c .queue .held) 0))
-  where
-    go : (n : Bool) → Shaped (cond n (replied NoWord c) (done (nextWord (widths First) (c .bank .shadows) (c .queue)) (withQueue (advanced (widths First) (c .queue)) c)) .chip)
-    go true = s
-    go false = shaped-queue c (advanced (widths First) (c .queue)) s (advance-places (widths First) (c .queue) (s .places))
+keeps-shaped opSend c s =
+    guarded-keeps Shaped (inside c) c (sendNow c) s
+    (either (λ t. Shaped (t .chip)) (eqb (c .queue .held) 0) (replied NoWord c) (done (nextWord (widths First) (c .bank .shadows) (c .queue)) (withQueue (advanced (widths First) (c .queue)) c)) s
+    (shaped-queue c (advanced (widths First) (c .queue)) s (advance-places (widths First) (c .queue) (s .places))))
 keeps-shaped (opFill room) c s =
     guarded-keeps Shaped (inside c) c (done _ (withQueue (sendQueue (widths First) room (c .queue)) c)) s
     (shaped-queue c (sendQueue (widths First) room (c .queue)) s (send-places (widths First) room (c .queue) (s .places)))

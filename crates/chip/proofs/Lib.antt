@@ -2,6 +2,7 @@
 pub mod AddressLaws
 pub mod Bounds
 pub mod ChipLaws
+pub mod Choice
 pub mod LineLaws
 pub mod Refusals
 pub mod Replies

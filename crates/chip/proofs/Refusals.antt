@@ -120,7 +120,7 @@ resource-at a =
 -- every operation
 kept : (op : Operation) (c : Chip) → KeptBy (resourceTrigger op) c (step op c)
 unfolding write read timestampTicks nodeTicks externalEvents send sendInto
-kept opReset c = tt
+kept (opReset hundredth) c = tt
 kept (opWrite a bits lines) c =
     kept-guard (between 112 127 a) (inside c) c (writeAt (placeOf a) bits lines c)
     (subst (λ (r : Bool). KeptBy r c (writeAt (placeOf a) bits lines c)) (resource-at a) (kept-write (placeOf a) bits lines c))

@@ -176,7 +176,7 @@ marks-sent false n c d v = refl
 -- every operation
 all-rows : (op : Operation) (c : Chip) → marks (step op c .number) ≡ rows op c
 unfolding write read timestampTicks nodeTicks externalEvents send sendInto
-all-rows opReset c = marks-reset (inside c)
+all-rows (opReset hundredth) c = marks-reset (inside c)
 all-rows (opWrite a bits lines) c =
     marks-guarded (inside c) c (writeAt (placeOf a) bits lines c)
     (λ i. writeRows i (tests a) (oneLine lines) (c .control .sampling) (passes c a) (short c a) (c .control .writewait))

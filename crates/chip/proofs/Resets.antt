@@ -1,35 +1,54 @@
--- A hardware reset gives a fresh record, whatever came in, and a software reset inside the bounds one but for the Timestamp: by
--- computation. Assumes nothing.
+-- A hardware reset gives a fresh record but for its choice, whatever came in, and a software reset inside the bounds one but for the Timestamp
+-- and the choice in force: by computation. No other operation touches the choice. Assumes nothing.
 use Prim.Native.Nat.{ℕ}
-use mathlib.Core.Path.{_≡_, refl, sym, ap, _∙_}
-use mathlib.Core.Bool.{true}
+use mathlib.Core.Path.{_≡_, refl, sym, ap, ap₂, _∙_}
+use mathlib.Core.Bool.{Bool, true, false, cond}
+use mathlib.Core.List.{_∷_}
 use lib.ListN.{replicate}
-use Rattle.chip.specs.Chip.{done, fresh, inside, softReset, withStamp, write, writeAt}
+use Rattle.chip.specs.Chip.{done, fresh, inside, softReset, withChoice, withStamp, write, writeAt}
 use Rattle.chip.specs.Operation.{opReset, opWrite, step}
 use Rattle.chip.specs.Parts.{numbersOf}
 use Rattle.chip.specs.Place.{placeOf, registerOf}
+use Rattle.chip.specs.Told.{Told}
 use Rattle.chip.specs.declared.chip.Chip.{Chip}
 use Rattle.chip.proofs.ChipLaws.{guard-in}
 
--- "Hardware reset: every part becomes zero, Timestamp included. That is a fresh chip"
-pub hard-reset : (c : Chip) → step opReset c ≡ done 0 fresh
-hard-reset c = refl
+-- "Hardware reset: every part becomes zero, Timestamp included. That is a fresh chip"; document 02, Wish 2: "Let a hardware reset choose by a
+-- yes or no"
+pub hard-reset : (hundredth : Bool) (c : Chip) → step (opReset hundredth) c ≡ done 0 (withChoice hundredth fresh)
+hard-reset hundredth c = refl
 
--- "every part becomes zero": 3 numbers and 8 places of 4 numbers of the queue and Timestamp, 16 counters and shadows, 8 Source Addresses,
--- 7 numbers and 6 marks of the settings
-pub fresh-zero : numbersOf fresh ≡ replicate 88 0
+-- "A fresh chip has the tenth"
+pub hard-fresh : (c : Chip) → step (opReset false) c ≡ done 0 fresh
+hard-fresh c = refl
+
+-- "every part becomes zero": Timestamp and choice, 2 numbers and 8 places of 4 numbers of the queue, 16 counters and shadows, 8 Source
+-- Addresses, 7 numbers and 6 marks of the settings
+pub fresh-zero : numbersOf fresh ≡ replicate 89 0
 fresh-zero = refl
 
+-- so a hardware reset leaves zeros and its choice
+pub hard-numbers : (hundredth : Bool) (c : Chip) → numbersOf (step (opReset hundredth) c .chip) ≡ 0 ∷ cond hundredth 1 0 ∷ replicate 87 0
+hard-numbers hundredth c = refl
+
 -- what a software reset makes of a record
-pub reset-record : (c : Chip) → softReset c ≡ withStamp (c .stamp) fresh
+pub reset-record : (c : Chip) → softReset c ≡ withStamp (c .stamp) (withChoice (c .switches .hundredth) fresh)
 reset-record c = refl
 
--- "Software reset. Everything becomes as after a hardware reset except the Timestamp"
-pub soft-reset : (bits lines : ℕ) (c : Chip) → inside c ≡ true → step (opWrite 0 bits lines) c ≡ done 0 (withStamp (c .stamp) fresh)
-unfolding write writeAt placeOf registerOf
-soft-reset bits lines c h = sym (guard-in c (done 0 (softReset c)) h) ∙ ap (done 0) (reset-record c)
+module _ (bits lines : ℕ) (c : Chip) (h : inside c ≡ true) where
+  -- "Software reset. Everything becomes as after a hardware reset except the Timestamp"; document 02, Wish 2: "Software reset keeps the
+  -- choice, so demand 2's "but for the Timestamp" now names this too"
+  pub soft-reset : step (opWrite 0 bits lines) c ≡ done 0 (withStamp (c .stamp) (withChoice (c .switches .hundredth) fresh))
+  unfolding write writeAt placeOf registerOf
+  soft-reset = sym (guard-in c (done 0 (softReset c)) h) ∙ ap (done 0) (reset-record c)
 
--- so of two records nothing but the Timestamp can be read after it
-pub soft-reset-same : (bits lines bits′ lines′ : ℕ) (c d : Chip) → inside c ≡ true → inside d ≡ true → c .stamp ≡ d .stamp → step (opWrite 0 bits lines) c ≡ step (opWrite 0 bits′ lines′) d
-soft-reset-same bits lines bits′ lines′ c d h k e =
-    soft-reset bits lines c h ∙ ap (λ (n : ℕ). done 0 (withStamp n fresh)) e ∙ sym (soft-reset bits′ lines′ d k)
+  -- number by number
+  pub soft-numbers : numbersOf (step (opWrite 0 bits lines) c .chip) ≡ c .stamp ∷ cond (c .switches .hundredth) 1 0 ∷ replicate 87 0
+  soft-numbers = ap (λ (t : Told). numbersOf (t .chip)) soft-reset
+
+-- so of two records nothing but the Timestamp and the choice can be read after it
+pub soft-reset-same : (bits lines bits′ lines′ : ℕ) (c d : Chip) → inside c ≡ true → inside d ≡ true → c .stamp ≡ d .stamp → c .switches .hundredth ≡ d .switches .hundredth → step (opWrite 0 bits lines) c ≡ step (opWrite 0 bits′ lines′) d
+soft-reset-same bits lines bits′ lines′ c d h k e f =
+    soft-reset bits lines c h
+    ∙ ap₂ (λ (n : ℕ) (b : Bool). done 0 (withStamp n (withChoice b fresh))) e f
+    ∙ sym (soft-reset bits′ lines′ d k)

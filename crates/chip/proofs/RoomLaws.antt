@@ -2,13 +2,14 @@
 -- by bound. Assumes nothing.
 use Prim.Native.Nat.{ℕ, zero, suc, _%_, _<_}
 use native.Mathlib.Omega.{arith}
-use mathlib.Core.Path.{_≡_, refl, sym, ap, ap₂, _∙_}
+use mathlib.Core.Path.{_≡_, refl, sym, ap, ap₂, subst, _∙_}
 use mathlib.Core.Logic.{_↔_}
 use mathlib.Core.Bool.{Bool, true, false, _&&_, _||_}
 use mathlib.Core.List.{List, [], _∷_}
 use lib.Dec.{leb}
 use lib.ListN.{getD, take}
 use borrow.Author.Tests.{le-leb, leb-false, leb-true, lt-leb}
+use Rattle.counters.specs.Due.{divisorOf}
 use Rattle.samples.specs.Layout.{sampleLength, widths}
 use Rattle.samples.specs.declared.edition.Edition.the-variants.{First}
 use Rattle.samples.proofs.PlaceLaws.{resource-number}
@@ -69,7 +70,8 @@ inside-bounded c = (to, back)
           none = b .none;
           trace = λ some low. omega (arith, b .some (λ z. omega arith), size false (lt-leb 8 (firstHeader c % 16) low));
           resource = λ some high. omega (arith, b .some (λ z. omega arith), size true (le-leb 8 (firstHeader c % 16) high));
-          phase = inside-phase c h;
+          tenth = λ e. subst (λ (b : Bool). c .switches .phase < divisorOf b) e (inside-phase c h);
+          hundredth = λ e. subst (λ (b : Bool). c .switches .phase < divisorOf b) e (inside-phase c h);
           stamp = inside-stamp c h;
         }
 
@@ -77,9 +79,13 @@ inside-bounded c = (to, back)
     left b some true e = omega (arith, size true e, b .resource (omega arith) (leb-true 8 (firstHeader c % 16) e))
     left b some false e = omega (arith, size false e, b .trace (omega arith) (leb-false 8 (firstHeader c % 16) e))
 
+    below : (b : Bool) → (b ≡ false → c .switches .phase < 10) → (b ≡ true → c .switches .phase < 100) → c .switches .phase < divisorOf b
+    below true tenth hundredth = hundredth refl
+    below false tenth hundredth = tenth refl
+
     back : WithinBounds c → inside c ≡ true
     back b =
         inside-by c
         (bounds-back (widths First) q (record { few = b .held; none = b .none; some = λ some. left b some (leb 8 (firstHeader c % 16)) refl }))
-        (b .phase)
+        (below (c .switches .hundredth) (b .tenth) (b .hundredth))
         (b .stamp)

@@ -21,7 +21,7 @@ use Rattle.chip.specs.declared.chip.Chip.{Chip}
 use Rattle.chip.specs.declared.place.Place.{Place}
 use Rattle.chip.specs.declared.place.Place.the-variants.{Beyond, Nowhere, Reset, Csr, Timestamp, Filter, Waits, Overruns, Mux, Clear, Enable, Disable, Source, Counter, Trigger}
 use Rattle.chip.proofs.AddressLaws.{place-counter, place-test}
-use Rattle.chip.proofs.ChipLaws.{guard-in}
+use Rattle.chip.proofs.ChipLaws.{either, guard-in}
 use Rattle.chip.proofs.RoomLaws.{rows-busy}
 
 -- "A counter read with the shadows free copies all sixteen to the shadows and returns the chosen one": the whole answer and record
@@ -74,10 +74,6 @@ fate-keeps isLost line bits c = refl
 fate-keeps isTold line bits c = refl
 fate-keeps isTaken line bits c = refl
 
-either : (b : Bool) (c : Chip) (x y : Told) → Keeps c x → Keeps c y → Keeps c (cond b x y)
-either true c x y p q = p
-either false c x y p q = q
-
 write-keeps : (p : Place) (bits lines : ℕ) (c : Chip) → copiedAt true false p ≡ false → Keeps c (writeAt p bits lines c)
 unfolding writeAt trigger Keeps
 write-keeps Beyond bits lines c e = refl
@@ -96,7 +92,7 @@ write-keeps (Source i) bits lines c e = refl
 write-keeps (Counter i) bits lines c e = refl
 write-keeps (Trigger true level) bits lines c e = absurd (false≢true (sym e))
 write-keeps (Trigger false level) bits lines c e =
-    either (oneLine lines) c _ _ (fate-keeps (fateOf false level c) (lineOf lines) bits c) refl
+    either (Keeps c) (oneLine lines) _ _ (fate-keeps (fateOf false level c) (lineOf lines) bits c) refl
 
 read-keeps : (p : Place) (c : Chip) → copiedAt false true p ≡ false → Keeps c (readAt p c)
 unfolding readAt Keeps
@@ -118,16 +114,16 @@ read-keeps (Trigger resource level) c e = refl
 
 guarded-keeps : (c : Chip) (t : Told) → Keeps c t → Keeps c (cond (inside c) t (replied Outside c))
 unfolding Keeps
-guarded-keeps c t k = either (inside c) c t _ k refl
+guarded-keeps c t k = either (Keeps c) (inside c) t _ k refl
 
 -- every other operation leaves them as they were, on any record
 pub shadows-stay : (op : Operation) (c : Chip) → copying op ≡ false → step op c .chip .bank .shadows ≡ c .bank .shadows
 unfolding write read timestampTicks nodeTicks externalEvents send sendInto Keeps
-shadows-stay opReset c e = absurd (false≢true (sym e))
+shadows-stay (opReset hundredth) c e = absurd (false≢true (sym e))
 shadows-stay (opWrite a bits lines) c e = guarded-keeps c _ (write-keeps (placeOf a) bits lines c (write-at a ∙ e))
 shadows-stay (opRead a) c e = guarded-keeps c _ (read-keeps (placeOf a) c (read-at a ∙ e))
 shadows-stay (opTicks k) c e = guarded-keeps c _ refl
 shadows-stay (opNodes k) c e = guarded-keeps c _ refl
 shadows-stay (opEvents mask) c e = guarded-keeps c _ refl
-shadows-stay opSend c e = guarded-keeps c _ (either (eqb (c .queue .held) 0) c _ _ refl refl)
+shadows-stay opSend c e = guarded-keeps c _ (either (Keeps c) (eqb (c .queue .held) 0) _ _ refl refl)
 shadows-stay (opFill room) c e = guarded-keeps c _ refl

@@ -1,15 +1,16 @@
 -- A count of k ticks does what k single ticks do, for both clocks: j ticks and then k are j + k, and outside the bounds no tick counts.
 -- Assumes the lengths and widths that the types give.
-use Prim.Native.Nat.{ℕ, zero, suc, _+_, _/_, _%_, _^_}
-use native.Mathlib.Nat.{add-comm}
+use Prim.Native.Nat.{ℕ, zero, suc, _+_, _/_, _%_, _^_, _<_}
+use native.Mathlib.Nat.{add-assoc, add-comm, add-zero, div-eq-of-lt, mod-add-mod, mod-eq-of-lt}
 use native.Mathlib.Numerals.{add-one}
 use native.Mathlib.Omega.{arith}
 use mathlib.Core.Path.{_≡_, refl, sym, ap, _∙_}
 use mathlib.Core.Bool.{Bool, true, false, cond}
-use Rattle.counters.specs.Due.{due, slowEvents, ticked}
+use Rattle.counters.specs.Due.{divisorOf, due, slowEvents, ticked}
 use Rattle.counters.specs.declared.bank.Bank.{Bank}
+use Rattle.counters.specs.declared.switches.Switches.{Switches}
 use Rattle.counters.specs.declared.switches.Kind.the-variants.{Slow, Node}
-use Rattle.counters.proofs.TickLaws.{counting-none, counting-twice}
+use Rattle.counters.proofs.TickLaws.{counting-none, counting-twice, divisor-some, events-sum}
 use Rattle.control.specs.declared.reply.Reply.the-variants.{Outside}
 use Rattle.chip.specs.Chip.{afterTicks, done, guarded, inside, nodeTicks, replied, timestampTicks, withBank}
 use Rattle.chip.specs.Operation.{Operation, opNodes, opTicks, step}
@@ -50,26 +51,41 @@ module _ (op : ℕ → Operation) (after : ℕ → Chip → Chip) (is : (k : ℕ
 
 -- ---- the Timestamp's clock
 
+-- the record with another Timestamp, bank and phase
+abbrev ticksTo : ℕ → Bank → ℕ → Chip → Chip
+ticksTo stamp bank phase c =
+    let s = c .switches in
+    record {
+      stamp = stamp;
+      queue = c .queue;
+      bank = bank;
+      sources = c .sources;
+      control = c .control;
+      switches = record { enabled = s .enabled; low = s .low; high = s .high; phase = phase; hundredth = s .hundredth };
+    }
+
 ticks-none : (c : Chip) → inside c ≡ true → Shaped c → afterTicks 0 c ≡ c
 ticks-none c h s =
+    let phase : c .switches .phase + 0 < divisorOf (c .switches .hundredth) = omega (arith, inside-phase c h) in
     let stamp : (c .stamp + 0) % 2 ^ 56 ≡ c .stamp = omega (arith, inside-stamp c h) in
-    let phase : (c .switches .phase + 0) % 10 ≡ c .switches .phase = omega (arith, inside-phase c h) in
-    let events : (c .switches .phase + 0) / 10 ≡ 0 = omega (arith, inside-phase c h) in
     let bank : ticked Slow (slowEvents 0 (c .switches)) (c .switches) (c .bank) ≡ c .bank =
-    ap (λ (n : ℕ). ticked Slow n (c .switches) (c .bank)) events ∙ counting-none (due Slow (c .switches)) (c .bank) (within-at 4 16 (c .bank .values) (s .values)) in
-    λ i. record { stamp = stamp i; queue = c .queue; bank = bank i; sources = c .sources; control = c .control; switches = record { enabled = c .switches .enabled; low = c .switches .low; high = c .switches .high; phase = phase i } }
+    ap (λ (n : ℕ). ticked Slow n (c .switches) (c .bank)) (div-eq-of-lt phase) ∙ counting-none (due Slow (c .switches)) (c .bank) (within-at 4 16 (c .bank .values) (s .values)) in
+    λ i. ticksTo (stamp i) (bank i) ((mod-eq-of-lt phase ∙ add-zero (c .switches .phase)) i) c
 
--- "A slow event falls on every tenth Timestamp tick": those of j ticks and then of k
+-- "A slow event falls on every tenth Timestamp tick", or every hundredth: those of j ticks and then of k
 ticks-sum : (j k : ℕ) (c : Chip) → afterTicks k (afterTicks j c) ≡ afterTicks (j + k) c
 ticks-sum j k c =
-    let p : ℕ = c .switches .phase in
+    let s : Switches = c .switches in
+    let d : ℕ = divisorOf (s .hundredth) in
+    let p : ℕ = s .phase in
     let stamp : ((c .stamp + j) % 2 ^ 56 + k) % 2 ^ 56 ≡ (c .stamp + (j + k)) % 2 ^ 56 = omega arith in
-    let phase : ((p + j) % 10 + k) % 10 ≡ (p + (j + k)) % 10 = omega arith in
-    let events : (p + j) / 10 + ((p + j) % 10 + k) / 10 ≡ (p + (j + k)) / 10 = omega arith in
-    let bank : ticked Slow (((p + j) % 10 + k) / 10) (c .switches) (ticked Slow ((p + j) / 10) (c .switches) (c .bank)) ≡ ticked Slow ((p + (j + k)) / 10) (c .switches) (c .bank) =
-    counting-twice (due Slow (c .switches)) ((p + j) / 10) (((p + j) % 10 + k) / 10) (c .bank)
-    ∙ ap (λ (n : ℕ). ticked Slow n (c .switches) (c .bank)) events in
-    λ i. record { stamp = stamp i; queue = c .queue; bank = bank i; sources = c .sources; control = c .control; switches = record { enabled = c .switches .enabled; low = c .switches .low; high = c .switches .high; phase = phase i } }
+    let phase : ((p + j) % d + k) % d ≡ (p + (j + k)) % d = mod-add-mod (p + j) d k ∙ ap (λ (n : ℕ). n % d) (add-assoc p j k) in
+    let events : (p + j) / d + ((p + j) % d + k) / d ≡ (p + (j + k)) / d =
+    sym (events-sum d (p + j) k (divisor-some (s .hundredth))) ∙ ap (λ (n : ℕ). n / d) (add-assoc p j k) in
+    let bank : ticked Slow (((p + j) % d + k) / d) s (ticked Slow ((p + j) / d) s (c .bank)) ≡ ticked Slow ((p + (j + k)) / d) s (c .bank) =
+    counting-twice (due Slow s) ((p + j) / d) (((p + j) % d + k) / d) (c .bank)
+    ∙ ap (λ (n : ℕ). ticked Slow n s (c .bank)) events in
+    λ i. ticksTo (stamp i) (bank i) (phase i) c
 
 -- ---- the node's clock
 

@@ -6,7 +6,7 @@ use lib.Count.{onesIn, trailingZeros}
 use lib.Dec.{ltb, eqb}
 use lib.ListN.{getD, set, replicate}
 use Rattle.counters.specs.Bank.{bit, cleared, copied, zeroBank}
-use Rattle.counters.specs.Due.{disabling, enabling, fired, selecting, selection, signalled, slowEvents, ticked, ticking, zeroSwitches}
+use Rattle.counters.specs.Due.{disabling, divisorOf, enabling, fired, selecting, selection, signalled, slowEvents, ticked, ticking, zeroSwitches}
 use Rattle.counters.specs.declared.bank.Bank.{Bank}
 use Rattle.counters.specs.declared.switches.Switches.{Switches}
 use Rattle.counters.specs.declared.switches.Kind.the-variants.{Slow, Node}
@@ -47,9 +47,15 @@ withControl k c = record { stamp = c .stamp; queue = c .queue; bank = c .bank; s
 abbrev pub withSwitches : Switches → Chip → Chip
 withSwitches s c = record { stamp = c .stamp; queue = c .queue; bank = c .bank; sources = c .sources; control = c .control; switches = s }
 
--- ---- resets, by "The chip's operations" and "Software reset"
+-- document 02, Wish 2: with another choice of the slow clock's speed
+abbrev pub withChoice : Bool → Chip → Chip
+withChoice b c =
+    let s = c .switches in
+    withSwitches (record { enabled = s .enabled; low = s .low; high = s .high; phase = s .phase; hundredth = b }) c
 
--- "every part becomes zero, Timestamp included. That is a fresh chip"
+-- ---- resets, by "The chip's operations" and "Software reset", and by document 02, Wish 2
+
+-- "every part becomes zero, Timestamp included. That is a fresh chip"; "A fresh chip has the tenth"
 abbrev pub fresh : Chip
 fresh =
     record {
@@ -58,12 +64,12 @@ fresh =
       bank = zeroBank;
       sources = replicate 8 0;
       control = noControl;
-      switches = zeroSwitches;
+      switches = zeroSwitches false;
     }
 
--- "Everything becomes as after a hardware reset except the Timestamp"
+-- "Everything becomes as after a hardware reset except the Timestamp"; "Software reset keeps the choice"
 abbrev pub softReset : Chip → Chip
-softReset c = withStamp (c .stamp) fresh
+softReset c = withStamp (c .stamp) (withChoice (c .switches .hundredth) fresh)
 
 -- ---- answers, by "Reply numbers"
 
@@ -74,9 +80,9 @@ done value c = toldRow (rowOf Done value) c
 abbrev pub replied : Reply → Chip → Told
 replied r c = toldRow (rowOf r 0) c
 
--- the bounds of reply 15: "queue counts, .. phase, field widths"
+-- the bounds of reply 15: "queue counts, .. phase, field widths"; the phase by the choice in force
 abbrev pub inside : Chip → Bool
-inside c = insideQueue (widths First) (c .queue) && (ltb (c .switches .phase) 10 && ltb (c .stamp) (2 ^ 56))
+inside c = insideQueue (widths First) (c .queue) && (ltb (c .switches .phase) (divisorOf (c .switches .hundredth)) && ltb (c .stamp) (2 ^ 56))
 
 -- 15 is tried first, at "any operation but hardware reset"
 abbrev pub guarded : Chip → Told → Told
@@ -189,9 +195,9 @@ readAt (Trigger resource level) c = replied Forbidden c
 
 -- ---- the operations, by "The chip's operations"
 
--- "Hardware reset": no bounds are asked of the record
-abbrev pub hardReset : Chip → Told
-hardReset c = done 0 fresh
+-- "Hardware reset": no bounds are asked of the record; "Let a hardware reset choose by a yes or no"
+abbrev pub hardReset : Bool → Chip → Told
+hardReset hundredth c = done 0 (withChoice hundredth fresh)
 
 -- "Write: address, 64-bit data, 8 processor lines. Read: address"
 unfoldable pub write : ℕ → ℕ → ℕ → Chip → Told

@@ -52,7 +52,7 @@ oneActive lines = lineAlone (lines % 256)
 
 -- "any operation but hardware reset"
 abbrev pub checked : Operation → Bool
-checked opReset = false
+checked (opReset hundredth) = false
 checked (opWrite address bits lines) = true
 checked (opRead address) = true
 checked (opTicks k) = true
@@ -63,7 +63,7 @@ checked (opFill room) = true
 
 -- a write whose address and lines pass the first test, a read whose address passes the second, or a single send under the third
 abbrev pub case : (ℕ → ℕ → Bool) → (ℕ → Bool) → Bool → Operation → Bool
-case w r s opReset = false
+case w r s (opReset hundredth) = false
 case w r s (opWrite address bits lines) = w address lines
 case w r s (opRead address) = r address
 case w r s (opTicks k) = false
@@ -105,13 +105,14 @@ abbrev pub firstHeader : Chip → ℕ
 firstHeader c = getD (c .queue .places) 0 zeroHeld .header
 
 -- "as few as the operations need (queue counts, places, phase, field widths)": by number, as docs/BOUNDS.md lists them. The first sample has
--- 80 words where its header's low four bits are 8 or more, else 16
+-- 80 words where its header's low four bits are 8 or more, else 16; the phase counts to ten, or to a hundred where that is chosen
 pub record WithinBounds (c : Chip) : Type 0 where
   pub held : c .queue .held ≤ 8
   pub none : c .queue .held ≡ 0 → c .queue .sent ≡ 0
   pub trace : 0 < c .queue .held → firstHeader c % 16 < 8 → c .queue .sent < 16
   pub resource : 0 < c .queue .held → 8 ≤ firstHeader c % 16 → c .queue .sent < 80
-  pub phase : c .switches .phase < 10
+  pub tenth : c .switches .hundredth ≡ false → c .switches .phase < 10
+  pub hundredth : c .switches .hundredth ≡ true → c .switches .phase < 100
   pub stamp : c .stamp < 2 ^ 56
 
 -- ---- the rows
@@ -179,7 +180,7 @@ resourceTrigger op = case (λ a lines. between 112 127 a) (λ a. false) false op
 
 -- what may write the shadows: resets, a Resource trigger ("also copies all counters to the shadows") and "A counter read"
 abbrev pub copying : Operation → Bool
-copying opReset = true
+copying (opReset hundredth) = true
 copying (opWrite a bits lines) = eqb a 0 || between 112 127 a
 copying (opRead a) = counterAt a
 copying (opTicks k) = false

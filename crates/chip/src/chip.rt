@@ -20,7 +20,7 @@ ghost use lib.ListN.{getD, length, set};
 ghost use Rattle.counters.specs.Bank.{copied};
 ghost use Rattle.chip.specs.Told.{told};
 ghost use Rattle.chip.specs.Table.{sendBy};
-ghost use Rattle.chip.specs.Chip.{afterTicks, blocked, done, externalEvents, fresh, hardReset, inside, nodeTicks, noneHeld, read, readAt, readCounter, replied, sampleNow, send, sendInto, sentBuffer, softReset, takeSample, timestampTicks, trigger, triggerBy, fateOf, withBank, withControl, withSources, withStamp, withSwitches, write, writeAt};
+ghost use Rattle.chip.specs.Chip.{afterTicks, blocked, done, externalEvents, fresh, hardReset, inside, nodeTicks, noneHeld, read, readAt, readCounter, replied, sampleNow, send, sendInto, sentBuffer, softReset, takeSample, timestampTicks, trigger, triggerBy, fateOf, withBank, withChoice, withControl, withSources, withStamp, withSwitches, write, writeAt};
 
 const TWO_32: u64 = 1 << 32;
 
@@ -48,16 +48,16 @@ pub struct Answer {
 }
 
 impl Chip {
-    // The chip after a hardware reset: every part zero.
+    // Every part zero, and the slow clock at a tenth of the Timestamp's.
     pub fn fresh() -> Chip
         ensures { λ r. ⌜ r ≡ fresh ⌝ }
     {
-        Chip::fresh_at(0)
+        Chip::fresh_with(0, false)
     }
 
-    // The same, but for the Timestamp.
-    fn fresh_at(stamp: u64) -> Chip
-        ensures { λ r. ⌜ r ≡ withStamp stamp fresh ⌝ }
+    // The same, but for the Timestamp and the slow clock's speed.
+    fn fresh_with(stamp: u64, hundredth: bool) -> Chip
+        ensures { λ r. ⌜ r ≡ withStamp stamp (withChoice hundredth fresh) ⌝ }
     {
         Chip {
             stamp,
@@ -65,23 +65,27 @@ impl Chip {
             bank: Bank::zero(),
             sources: [0; 8],
             control: Control::zero(),
-            switches: Switches::zero(),
+            switches: Switches::zero(hundredth),
         }
     }
 
-    pub fn hardware_reset(self) -> Answer
-        ensures { λ r. ⌜ told r ≡ hardReset self ⌝ }
+    // A fresh chip, whose slow clock has the speed that is chosen.
+    pub fn hardware_reset(self, hundredth: bool) -> Answer
+        ensures { λ r. ⌜ told r ≡ hardReset hundredth self ⌝ }
     {
-        Chip::fresh().done(0)
+        Chip::fresh_with(0, hundredth).done(0)
     }
 
     // Whether the record is inside the bounds of reply 15.
     pub fn inside(self) -> bool
         ensures { λ r. ⌜ r ≡ inside self ⌝ }
     {
-        let queue = self.queue;
         let phase = self.switches.phase;
-        queue.inside(Edition::First) & (phase < 10) & (self.stamp < TWO_56)
+        if self.switches.divisor() <= phase {
+            return false;
+        }
+        let queue = self.queue;
+        queue.inside(Edition::First) & (self.stamp < TWO_56)
     }
 
     // Done, with a value.
@@ -250,7 +254,7 @@ impl Chip {
     fn soft_reset(self) -> Chip
         ensures { λ r. ⌜ r ≡ softReset self ⌝ }
     {
-        Chip::fresh_at(self.stamp)
+        Chip::fresh_with(self.stamp, self.switches.hundredth)
     }
 
     fn controlled(mut self, control: Control) -> Chip

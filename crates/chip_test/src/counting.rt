@@ -44,12 +44,19 @@ pub fn software_events() {
     steps::read(chip, 38);
 }
 
-// M10.
+// M10, and document 02's Wish 2.
 pub fn slow_clock() {
     print::heading(b"Slow clock: every tenth tick since the reset");
-    let mut chip = Chip::fresh();
+    slow_events(Chip::fresh(), 9);
+    print::heading(b"Slow clock: every hundredth tick since the reset");
+    slow_events(steps::hardware_reset(Chip::fresh(), true), 99);
+}
+
+// Ticks that are one too few for a slow event, and one more; then many, four, and one more.
+fn slow_events(fresh: Chip, few: u32) {
+    let mut chip = fresh;
     chip = steps::set(chip, 11, 1);
-    chip = steps::timestamp_ticks(chip, 9);
+    chip = steps::timestamp_ticks(chip, few);
     chip = steps::read(chip, 32);
     chip = steps::timestamp_ticks(chip, 1);
     chip = steps::read(chip, 32);

@@ -58,17 +58,18 @@ pub fn numbered() -> Chip {
     chip
 }
 
-// A chip with its Timestamp, or with its slow clock's phase.
+// A chip with its Timestamp, or with its slow clock's phase and speed.
 pub fn stamped(before: Chip, stamp: u64) -> Chip {
     let mut chip = before;
     chip.stamp = stamp;
     chip
 }
 
-pub fn phased(phase: u16) -> Chip {
+pub fn phased(phase: u8, hundredth: bool) -> Chip {
     let mut chip = Chip::fresh();
     let mut switches = chip.switches;
     switches.phase = phase;
+    switches.hundredth = hundredth;
     chip.switches = switches;
     chip
 }

@@ -17,6 +17,7 @@ fn main() {
     resets::software_reset();
     resets::phase_after_reset();
     resets::hardware_reset();
+    resets::speeds();
     sending::lengths();
     sending::as_single_sends();
     sending::resource_and_trace();

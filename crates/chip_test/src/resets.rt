@@ -21,7 +21,7 @@ pub fn software_reset() {
     print::heading(b"Software reset, a sample half sent");
     let mut chip = used();
     chip = steps::set(chip, 0, 18446744073709551615);
-    steps::is_fresh(chip, 1009);
+    steps::is_fresh(chip, 1009, false);
     chip = steps::send(chip);
     chip = steps::read(chip, 2);
     chip = steps::set(chip, 1, 1);
@@ -47,8 +47,38 @@ pub fn phase_after_reset() {
 pub fn hardware_reset() {
     print::heading(b"Hardware reset, a sample half sent");
     let mut chip = used();
-    chip = steps::hardware_reset(chip);
-    steps::is_fresh(chip, 0);
+    chip = steps::hardware_reset(chip, false);
+    steps::is_fresh(chip, 0, false);
     chip = steps::send(chip);
-    steps::hardware_reset(chip);
+    steps::hardware_reset(chip, false);
+}
+
+// Document 02, Wish 2: each hardware reset chooses anew. A software reset keeps the choice, whatever its data, and clears the phase: with it
+// the ticks before would make an event.
+pub fn speeds() {
+    print::heading(b"A hardware reset chooses the slow clock's speed, a software reset keeps it");
+    let mut chip = used();
+    chip = steps::hardware_reset(chip, true);
+    steps::is_fresh(chip, 0, true);
+    chip = steps::timestamp_ticks(chip, 95);
+    chip = steps::set(chip, 0, 0);
+    steps::is_fresh(chip, 95, true);
+    chip = short_of_an_event(chip, 99);
+    chip = steps::hardware_reset(chip, true);
+    steps::is_fresh(chip, 0, true);
+    chip = steps::hardware_reset(chip, false);
+    steps::is_fresh(chip, 0, false);
+    chip = steps::timestamp_ticks(chip, 5);
+    chip = steps::set(chip, 0, 1);
+    steps::is_fresh(chip, 5, false);
+    short_of_an_event(chip, 9);
+}
+
+// Ticks that are one too few for a slow event, and one more.
+fn short_of_an_event(before: Chip, few: u32) -> Chip {
+    let mut chip = steps::set(before, 11, 1);
+    chip = steps::timestamp_ticks(chip, few);
+    chip = steps::read(chip, 32);
+    chip = steps::timestamp_ticks(chip, 1);
+    steps::read(chip, 32)
 }

@@ -87,5 +87,6 @@ fn same_control(a: Control, b: Control) -> bool {
 }
 
 fn same_switches(a: Switches, b: Switches) -> bool {
-    (a.enabled == b.enabled) & (a.low == b.low) & (a.high == b.high) & (a.phase == b.phase)
+    let due = (a.enabled == b.enabled) & (a.low == b.low) & (a.high == b.high);
+    due & (a.phase == b.phase) & (a.hundredth == b.hundredth)
 }

@@ -36,9 +36,17 @@ fn line(before: Chip, answer: Answer) -> Chip {
     next
 }
 
-pub fn hardware_reset(chip: Chip) -> Chip {
+pub fn hardware_reset(chip: Chip, hundredth: bool) -> Chip {
     print::text(b"hardware reset");
-    line(chip, chip.hardware_reset())
+    name_speed(hundredth);
+    line(chip, chip.hardware_reset(hundredth))
+}
+
+// The slow clock's speed is named where it isn't a fresh chip's.
+fn name_speed(hundredth: bool) {
+    if hundredth {
+        print::text(b" at a hundredth");
+    }
 }
 
 pub fn write(chip: Chip, address: u64, bits: u64, lines: u8) -> Chip {
@@ -199,11 +207,15 @@ fn ticked(chip: Chip, times: u64) -> Chip {
     state
 }
 
-// Whether a record is a fresh chip's but for the Timestamp, which it has to have.
-pub fn is_fresh(chip: Chip, stamp: u64) {
+// Whether a record is a fresh chip's but for the Timestamp and the slow clock's speed, which it has to have.
+pub fn is_fresh(chip: Chip, stamp: u64, hundredth: bool) {
     let mut fresh = Chip::fresh();
+    let mut switches = fresh.switches;
+    switches.hundredth = hundredth;
+    fresh.switches = switches;
     fresh.stamp = stamp;
     print::field(b"beside a fresh chip with Timestamp ", stamp);
+    name_speed(hundredth);
     print::text(b":");
     same::tell(same::same(chip, fresh));
     print::text(b"\n");

@@ -1,7 +1,7 @@
 -- Document 01, "Counters", "External events" of "The chip's operations", and "Address map" 8, 11, 12 and 32 to 47: which counters an
--- event is due to.
+-- event is due to. Document 02, Wish 2: "The slow clock has two speeds".
 use Prim.Native.Nat.{ℕ, _+_, _-_, _*_, _/_, _%_, _^_}
-use mathlib.Core.Bool.{Bool, not, _&&_}
+use mathlib.Core.Bool.{Bool, cond, not, _&&_}
 use lib.Bits.{bitAnd, bitOr}
 use lib.Dec.{eqb}
 use Rattle.counters.specs.Bank.{bit, counting}
@@ -10,9 +10,9 @@ use Rattle.counters.specs.declared.switches.Switches.{Switches}
 use Rattle.counters.specs.declared.switches.Kind.{Kind}
 use Rattle.counters.specs.declared.switches.Kind.the-variants.{Slow, External, Software, Node}
 
--- "every part becomes zero"
-abbrev pub zeroSwitches : Switches
-zeroSwitches = record { enabled = 0; low = 0; high = 0; phase = 0 }
+-- "every part becomes zero", but for the slow clock's choice: yes is the hundredth
+abbrev pub zeroSwitches : Bool → Switches
+zeroSwitches hundredth = record { enabled = 0; low = 0; high = 0; phase = 0; hundredth = hundredth }
 
 -- "00 slow clock, 01 external, 10 software, 11 node clock": high bit, low bit
 abbrev pub selects : Kind → Bool → Bool → Bool
@@ -56,22 +56,28 @@ fired i s b = counting (λ j. eqb j i && due Software s j) 1 b
 
 -- "enable the counters of the set bits"; "only bits 0 to 15 act"
 abbrev pub enabling : ℕ → Switches → Switches
-enabling bits s = record { enabled = bitOr (s .enabled) (bits % 2 ^ 16); low = s .low; high = s .high; phase = s .phase }
+enabling bits s = record { enabled = bitOr (s .enabled) (bits % 2 ^ 16); low = s .low; high = s .high; phase = s .phase; hundredth = s .hundredth }
 
 -- "disable the counters of the set bits"
 abbrev pub disabling : ℕ → Switches → Switches
-disabling bits s = record { enabled = bitAnd (s .enabled) (2 ^ 16 - 1 - bits % 2 ^ 16); low = s .low; high = s .high; phase = s .phase }
+disabling bits s = record { enabled = bitAnd (s .enabled) (2 ^ 16 - 1 - bits % 2 ^ 16); low = s .low; high = s .high; phase = s .phase; hundredth = s .hundredth }
 
 -- "MUX SEL keeps bits 0 to 15 and 32 to 47; the others read zero"
 abbrev pub selecting : ℕ → Switches → Switches
-selecting bits s = record { enabled = s .enabled; low = bits % 2 ^ 16; high = bits / 2 ^ 32 % 2 ^ 16; phase = s .phase }
+selecting bits s = record { enabled = s .enabled; low = bits % 2 ^ 16; high = bits / 2 ^ 32 % 2 ^ 16; phase = s .phase; hundredth = s .hundredth }
 
 abbrev pub selection : Switches → ℕ
 selection s = s .low + 2 ^ 32 * s .high
 
--- "A slow event falls on every tenth Timestamp tick since the last reset": the events in k ticks, and the phase after them
+-- "one tenth or one hundredth of the Timestamp clock": the ticks to a slow event
+abbrev pub divisorOf : Bool → ℕ
+divisorOf hundredth = cond hundredth 100 10
+
+-- "A slow event falls on every tenth Timestamp tick since the last reset", or on every hundredth: the events in k ticks, and the phase after
+-- them
 abbrev pub slowEvents : ℕ → Switches → ℕ
-slowEvents k s = (s .phase + k) / 10
+slowEvents k s = (s .phase + k) / divisorOf (s .hundredth)
 
 abbrev pub ticking : ℕ → Switches → Switches
-ticking k s = record { enabled = s .enabled; low = s .low; high = s .high; phase = (s .phase + k) % 10 }
+ticking k s =
+    record { enabled = s .enabled; low = s .low; high = s .high; phase = (s .phase + k) % divisorOf (s .hundredth); hundredth = s .hundredth }

@@ -1,6 +1,6 @@
-// What makes an event due to a counter: the enabled set, MUX SEL's two halves, and the slow clock's phase.
+// What makes an event due to a counter: the enabled set, MUX SEL's two halves, and the slow clock's phase and speed.
 ghost use mathlib.Core.Path.{_≡_};
-ghost use Rattle.counters.specs.Due.{disabling, due, dueMask, enabling, selecting, selection, slowEvents, ticking, zeroSwitches};
+ghost use Rattle.counters.specs.Due.{disabling, divisorOf, due, dueMask, enabling, selecting, selection, slowEvents, ticking, zeroSwitches};
 
 // The four kinds of events that a counter can count.
 pub enum Kind {
@@ -10,11 +10,13 @@ pub enum Kind {
     Node,
 }
 
+// Eight bytes without padding, which the compiler keeps in one register: the phase is its top byte, since every operation tests it.
 pub struct Switches {
     pub enabled: u16,
     pub low: u16,
     pub high: u16,
-    pub phase: u16,
+    pub hundredth: bool,
+    pub phase: u8,
 }
 
 // 2^16 and 2^32, and sixteen bits of which all are set.
@@ -25,14 +27,15 @@ const TWO_32: u64 = 1 << 32;
 const SIXTEEN_ONES: u16 = 65535;
 
 impl Switches {
-    // Nothing enabled, every field 00, the phase at its start.
-    pub fn zero() -> Switches
-        ensures { λ r. ⌜ r ≡ zeroSwitches ⌝ }
+    // Nothing enabled, every field 00, the phase at its start, and the slow clock's speed as it is chosen.
+    pub fn zero(hundredth: bool) -> Switches
+        ensures { λ r. ⌜ r ≡ zeroSwitches hundredth ⌝ }
     {
         Switches {
             enabled: 0,
             low: 0,
             high: 0,
+            hundredth,
             phase: 0,
         }
     }
@@ -90,17 +93,33 @@ impl Switches {
         self.low as u64 + TWO_32 * self.high as u64
     }
 
-    // How many slow events fall within a count of Timestamp ticks.
+    // How many Timestamp ticks there are to a slow event.
+    pub fn divisor(self) -> u8
+        ensures { λ r. ⌜ r ≡ divisorOf (self .hundredth) ⌝ }
+    {
+        if self.hundredth { 100 } else { 10 }
+    }
+
+    // How many slow events fall within a count of Timestamp ticks. A division by a constant is the faster one.
     pub fn slow_events(self, count: u32) -> u32
         ensures { λ r. ⌜ r ≡ slowEvents count self ⌝ }
     {
-        ((self.phase as u64 + count as u64) / 10) as u32
+        let ticks = self.phase as u64 + count as u64;
+        if self.hundredth {
+            return (ticks / 100) as u32;
+        }
+        (ticks / 10) as u32
     }
 
     pub fn ticking(mut self, count: u32) -> Switches
         ensures { λ r. ⌜ r ≡ ticking count self ⌝ }
     {
-        self.phase = ((self.phase as u64 + count as u64) % 10) as u16;
+        let ticks = self.phase as u64 + count as u64;
+        if self.hundredth {
+            self.phase = (ticks % 100) as u8;
+        } else {
+            self.phase = (ticks % 10) as u8;
+        }
         self
     }
 }

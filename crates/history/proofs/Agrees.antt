@@ -1,14 +1,16 @@
 -- The relation between a ledger and a chip's record: every part of the record is a function of the ledger, but for the queue, which holds
 -- what the ledger says is held, and the shadows, which matter only to that. Assumes nothing.
 use Prim.Native.Nat.{ℕ, _-_, _%_, _^_}
-use native.Mathlib.Nat.{mod-lt, zero-lt-suc}
+use native.Mathlib.Nat.{mod-lt}
 use mathlib.Core.Path.{_≡_, ap₂, subst}
 use mathlib.Core.Bool.{Bool, true, _&&_}
 use mathlib.Core.List.{List, map}
 use lib.ListN.{length}
 use lib.Pow.{pow-pos}
 use borrow.Author.Tests.{lt-ltb}
+use Rattle.counters.specs.Due.{divisorOf}
 use Rattle.counters.specs.declared.switches.Switches.{Switches}
+use Rattle.counters.proofs.TickLaws.{divisor-some}
 use Rattle.samples.specs.declared.edition.Edition.the-variants.{First}
 use Rattle.queue.specs.declared.queue.Queue.{Queue}
 use Rattle.control.specs.declared.control.Control.{Control}
@@ -38,7 +40,7 @@ controlOf l =
 -- bit i of each register is counter i's
 abbrev pub switchesOf : Ledger → Switches
 switchesOf l =
-    record { enabled = packed (λ k. k .on) (l .counters); low = packed (λ k. k .low) (l .counters); high = packed (λ k. k .high) (l .counters); phase = l .ticks % 10 }
+    record { enabled = packed (λ k. k .on) (l .counters); low = packed (λ k. k .low) (l .counters); high = packed (λ k. k .high) (l .counters); phase = l .ticks % divisorOf (l .hundredth); hundredth = l .hundredth }
 
 -- the record that a ledger leaves, with a queue and shadows
 abbrev pub chipFor : Ledger → Queue → List ℕ → Chip
@@ -74,7 +76,7 @@ pub record Kept (e : Entry) (t : Told) : Type 0 where
 pub for-inside : (l : Ledger) (q : Queue) (sh : List ℕ) → Good l q sh → inside (chipFor l q sh) ≡ true
 for-inside l q sh g =
     ap₂ (λ (a b : Bool). a && b) (holds-inside First (l .taken) (l .sent) sh q (g .holds))
-    (ap₂ (λ (a b : Bool). a && b) (lt-ltb (l .ticks % 10) 10 (mod-lt (l .ticks) (zero-lt-suc 9)))
+    (ap₂ (λ (a b : Bool). a && b) (lt-ltb (l .ticks % divisorOf (l .hundredth)) (divisorOf (l .hundredth)) (mod-lt (l .ticks) (divisor-some (l .hundredth))))
     (lt-ltb (l .clock % 2 ^ 56) (2 ^ 56) (mod-lt (l .clock) (pow-pos 56))))
 
 pub kept-guarded : (l : Ledger) (q : Queue) (sh : List ℕ) (e : Entry) (t : Told) → Good l q sh → Kept e t → Kept e (guarded (chipFor l q sh) t)

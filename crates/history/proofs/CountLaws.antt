@@ -10,11 +10,12 @@ use lib.Dec.{eqb}
 use lib.ListN.{length, getD, length-map, List·getD-map}
 use borrow.Author.Tests.{eqb-true, eqb-false}
 use Rattle.counters.specs.Bank.{bit, each, grown}
-use Rattle.counters.specs.Due.{fieldOf, selects}
+use Rattle.counters.specs.Due.{divisorOf, fieldOf, selects}
 use Rattle.counters.specs.declared.switches.Kind.{Kind}
 use Rattle.counters.proofs.BitLaws.{half-bit, selects-field}
 use Rattle.counters.proofs.EachLaws.{each-is}
-use Rattle.history.specs.Ledger.{Counter, eachFrom, noCounter, packed}
+use Rattle.counters.proofs.TickLaws.{event-falls, events-sum}
+use Rattle.history.specs.Ledger.{Counter, eachFrom, noCounter, packed, slowIn}
 
 -- a number modulo 2^32
 abbrev pub wrapped : ℕ → ℕ
@@ -135,9 +136,14 @@ counted-value true true n k = sym (wrapped-grown (k .events) n)
 counted-value true false n k = refl
 counted-value false b n k = refl
 
--- the slow clock: the events among k ticks, from the ticks so far or from the phase
-pub slow-same : (ticks k : ℕ) → (ticks + k) / 10 - ticks / 10 ≡ (ticks % 10 + k) / 10
-slow-same ticks k = omega arith
+-- ---- the slow clock
 
-pub phase-same : (ticks k : ℕ) → (ticks % 10 + k) % 10 ≡ (ticks + k) % 10
-phase-same ticks k = omega arith
+-- the events among k ticks, from the ticks so far or from the phase
+pub slow-same : (hundredth : Bool) (ticks k : ℕ) → slowIn hundredth ticks k ≡ (ticks % divisorOf hundredth + k) / divisorOf hundredth
+slow-same true ticks k = omega (arith, events-sum 100 ticks k (omega arith))
+slow-same false ticks k = omega (arith, events-sum 10 ticks k (omega arith))
+
+-- "A slow event falls on every tenth Timestamp tick since the last reset", or on every hundredth: on that tick one, and none on another
+pub slow-falls : (hundredth : Bool) (ticks : ℕ) → slowIn hundredth ticks 1 ≡ cond (eqb ((ticks + 1) % cond hundredth 100 10) 0) 1 0
+slow-falls true ticks = event-falls 100 ticks (omega arith)
+slow-falls false ticks = event-falls 10 ticks (omega arith)

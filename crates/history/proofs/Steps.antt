@@ -14,7 +14,7 @@ use Rattle.samples.specs.Layout.{widths}
 use Rattle.samples.specs.declared.edition.Edition.the-variants.{First}
 use Rattle.counters.specs.Bank.{bit, copied, grown}
 use Rattle.counters.specs.Bank.{each as Bank·each}
-use Rattle.counters.specs.Due.{disabling, due, enabling, selecting, selects}
+use Rattle.counters.specs.Due.{disabling, divisorOf, due, enabling, selecting, selects}
 use Rattle.counters.specs.Due.{fieldOf as Kind·fieldOf}
 use Rattle.counters.specs.declared.switches.Kind.{Kind}
 use Rattle.counters.specs.declared.switches.Kind.the-variants.{Slow, External, Software, Node}
@@ -25,7 +25,7 @@ use Rattle.queue.specs.declared.queue.Queue.{Queue}
 use Rattle.control.specs.Control.{csrOf, one, pair, waited}
 use Rattle.control.specs.Control.{configured as Control·configured}
 use Rattle.control.specs.declared.reply.Reply.the-variants.{Busy, NoWord, Wait}
-use Rattle.chip.specs.Chip.{afterTicks, done, externalEvents, fresh, nodeTicks, read, readAt, readCounter, replied, send, sendInto, sendNow, timestampTicks, withBank, withControl, withQueue, withStamp, write, writeAt}
+use Rattle.chip.specs.Chip.{afterTicks, done, externalEvents, fresh, nodeTicks, read, readAt, readCounter, replied, send, sendInto, sendNow, timestampTicks, withBank, withChoice, withControl, withQueue, withStamp, write, writeAt}
 use Rattle.chip.specs.Operation.{Operation, opReset, opWrite, opRead, opTicks, opNodes, opEvents, opSend, opFill, step}
 use Rattle.chip.specs.Place.{placeOf, registerOf}
 use Rattle.chip.specs.Told.{Told}
@@ -36,7 +36,7 @@ use Rattle.history.specs.Ledger.{Counter, Entry, Ledger, byRange, cleare
 use Rattle.history.specs.Stream.{anyHeld, isFull, totalOf, wordsOfAll}
 use Rattle.history.proofs.Addresses.{by-place, range-beyond, range-counter, range-source, range-trigger, range-vacant}
 use Rattle.history.proofs.Agrees.{Agrees, Good, Kept, chipFor, controlOf, kept-guarded, switchesOf}
-use Rattle.history.proofs.CountLaws.{counted-value, each-length, each-same, packed-bit, packed-each, packed-lt, packed-same, phase-same, selects-number, slow-same, under, value-at, valueOf, values-each}
+use Rattle.history.proofs.CountLaws.{counted-value, each-length, each-same, packed-bit, packed-each, packed-lt, packed-same, selects-number, slow-same, under, value-at, valueOf, values-each}
 use Rattle.history.proofs.HeldLaws.{Sixteen}
 use Rattle.history.proofs.HoldsLaws.{Holds, holds-advanced, holds-busy, holds-copied, holds-empty, holds-full, holds-none, holds-some, next-is, many, many-count}
 use Rattle.history.proofs.Triggers.{told, trigger-kept}
@@ -70,12 +70,13 @@ csr-same full shadows l =
     flag n false = omega arith
 
 -- a reset record, whatever was before
-pub reset-record : (clock : ℕ) → withStamp (clock % 2 ^ 56) fresh ≡ chipFor (resetAt clock) emptyQueue (replicate 16 0)
+pub reset-record : (clock : ℕ) (hundredth : Bool) → withStamp (clock % 2 ^ 56) (withChoice hundredth fresh) ≡ chipFor (resetAt clock hundredth) emptyQueue (replicate 16 0)
 unfolding packed
-reset-record clock = refl
+reset-record clock true = refl
+reset-record clock false = refl
 
-pub reset-good : (clock : ℕ) → Good (resetAt clock) emptyQueue (replicate 16 0)
-reset-good clock = record { holds = holds-empty First (replicate 16 0); sixteen = tt; counters = refl }
+pub reset-good : (clock : ℕ) (hundredth : Bool) → Good (resetAt clock hundredth) emptyQueue (replicate 16 0)
+reset-good clock hundredth = record { holds = holds-empty First (replicate 16 0); sixteen = tt; counters = refl }
 
 module _ (l : Ledger) (q : Queue) (sh : List ℕ) (g : Good l q sh) where
   -- the same record
@@ -149,14 +150,15 @@ module _ (l : Ledger) (q : Queue) (sh : List ℕ) (g : Good l q sh) where
   few p = subst (λ (n : ℕ). packed p (l .counters) < 2 ^ n) (g .counters) (packed-lt p (l .counters))
 
   -- 11 and 12: the counters of the set bits become b
-  switched-kept : (b : Bool) (bits x : ℕ) → x < 2 ^ 16 → ((j : ℕ) → j < 16 → bit x j ≡ cond (isSet bits j) b (bit (packed (λ k. k .on) (l .counters)) j)) → Kept (tells 0 0 (each (enabled b bits) l)) (done 0 (withCounted (map valueOf (l .counters)) (record { enabled = x; low = packed (λ k. k .low) (l .counters); high = packed (λ k. k .high) (l .counters); phase = l .ticks % 10 })))
+  switched-kept : (b : Bool) (bits x : ℕ) → x < 2 ^ 16 → ((j : ℕ) → j < 16 → bit x j ≡ cond (isSet bits j) b (bit (packed (λ k. k .on) (l .counters)) j)) → Kept (tells 0 0 (each (enabled b bits) l)) (done 0 (withCounted (map valueOf (l .counters)) (record { enabled = x; low = packed (λ k. k .low) (l .counters); high = packed (λ k. k .high) (l .counters); phase = l .ticks % divisorOf (l .hundredth); hundredth = l .hundredth })))
   switched-kept b bits x h e =
       each-kept f _ _ (sym (each-same valueOf 0 f (l .counters) (λ j k. under valueOf (isSet bits j) (next k) k refl)))
       (λ i. record {
         enabled = register-of (λ k. k .on) f x h (λ j p. e j p ∙ ap (cond (isSet bits j) b) (bit-of (λ k. k .on) j p) ∙ on (isSet bits j) (getD (l .counters) j noCounter)) i;
         low = packed-same (λ k. k .low) 0 f (l .counters) (λ j k. under (λ m. m .low) (isSet bits j) (next k) k refl) i;
         high = packed-same (λ k. k .high) 0 f (l .counters) (λ j k. under (λ m. m .high) (isSet bits j) (next k) k refl) i;
-        phase = l .ticks % 10;
+        phase = l .ticks % divisorOf (l .hundredth);
+        hundredth = l .hundredth;
       })
     where
       f : ℕ → Counter → Counter
@@ -199,7 +201,8 @@ module _ (l : Ledger) (q : Queue) (sh : List ℕ) (g : Good l q sh) where
         enabled = packed-same (λ k. k .on) 0 (selected bits) (l .counters) (λ j k. refl) i;
         low = register-of (λ k. k .low) (selected bits) _ (mod-lt bits (pow-pos 16)) (λ j h. low-bit bits (switchesOf l) j h) i;
         high = register-of (λ k. k .high) (selected bits) _ (mod-lt (bits / 2 ^ 32) (pow-pos 16)) (λ j h. high-bit bits (switchesOf l) j h) i;
-        phase = l .ticks % 10;
+        phase = l .ticks % divisorOf (l .hundredth);
+        hundredth = l .hundredth;
       })
 
   -- what changes events alone
@@ -210,7 +213,8 @@ module _ (l : Ledger) (q : Queue) (sh : List ℕ) (g : Good l q sh) where
         enabled = packed-same (λ k. k .on) 0 f (l .counters) (λ j k. e j k .0) i;
         low = packed-same (λ k. k .low) 0 f (l .counters) (λ j k. e j k .1 .1) i;
         high = packed-same (λ k. k .high) 0 f (l .counters) (λ j k. e j k .1 .0) i;
-        phase = l .ticks % 10;
+        phase = l .ticks % divisorOf (l .hundredth);
+        hundredth = l .hundredth;
       })
 
   -- 10
@@ -306,7 +310,7 @@ module _ (l : Ledger) (q : Queue) (sh : List ℕ) (g : Good l q sh) where
                                   (
                                     configured-kept bits,
                                     (
-                                      record { agrees = record { queue = emptyQueue; shadows = replicate 16 0; is = reset-record (l .clock); good = reset-good (l .clock) }; number = refl; value = refl },
+                                      record { agrees = record { queue = emptyQueue; shadows = replicate 16 0; is = reset-record (l .clock) (l .hundredth); good = reset-good (l .clock) (l .hundredth) }; number = refl; value = refl },
                                       tt,
                                     ),
                                   ),
@@ -433,13 +437,14 @@ module _ (l : Ledger) (q : Queue) (sh : List ℕ) (g : Good l q sh) where
 
   -- ---- ticks
 
-  ticks-kept : (k : ℕ) → Kept (tells 0 0 (withTicks k (happened (Kind·fieldOf Slow) (λ i. true) (slowIn (l .ticks) k) l))) (done 0 (afterTicks k (chipFor l q sh)))
+  ticks-kept : (k : ℕ) → Kept (tells 0 0 (withTicks k (happened (Kind·fieldOf Slow) (λ i. true) (slowIn (l .hundredth) (l .ticks) k) l))) (done 0 (afterTicks k (chipFor l q sh)))
   unfolding happenedBy
   ticks-kept k =
-      let n : ℕ = slowIn (l .ticks) k in
+      let n : ℕ = slowIn (l .hundredth) (l .ticks) k in
+      let d : ℕ = divisorOf (l .hundredth) in
       let f : ℕ → Counter → Counter = happenedBy Slow (λ i. true) n in
-      let values : Bank·each (λ j v. cond (due Slow (switchesOf l) j) (grown v ((l .ticks % 10 + k) / 10)) v) 0 (map valueOf (l .counters)) ≡ map valueOf (eachFrom 0 f (l .counters)) =
-      ap (λ (m : ℕ). Bank·each (λ j v. cond (due Slow (switchesOf l) j) (grown v m) v) 0 (map valueOf (l .counters))) (sym (slow-same (l .ticks) k)) ∙ happened-values Slow (λ i. true) n in
+      let values : Bank·each (λ j v. cond (due Slow (switchesOf l) j) (grown v ((l .ticks % d + k) / d)) v) 0 (map valueOf (l .counters)) ≡ map valueOf (eachFrom 0 f (l .counters)) =
+      ap (λ (m : ℕ). Bank·each (λ j v. cond (due Slow (switchesOf l) j) (grown v m) v) 0 (map valueOf (l .counters))) (sym (slow-same (l .hundredth) (l .ticks) k)) ∙ happened-values Slow (λ i. true) n in
       record {
         agrees =
             record {
@@ -458,7 +463,8 @@ module _ (l : Ledger) (q : Queue) (sh : List ℕ) (g : Good l q sh) where
                           enabled = packed-same (λ m. m .on) 0 f (l .counters) (λ i m. happened-else Slow (λ x. true) n i m .0) j;
                           low = packed-same (λ m. m .low) 0 f (l .counters) (λ i m. happened-else Slow (λ x. true) n i m .1 .1) j;
                           high = packed-same (λ m. m .high) 0 f (l .counters) (λ i m. happened-else Slow (λ x. true) n i m .1 .0) j;
-                          phase = phase-same (l .ticks) k j;
+                          phase = mod-add-mod (l .ticks) d k j;
+                          hundredth = l .hundredth;
                         };
                   };
               good = record { holds = g .holds; sixteen = g .sixteen; counters = each-length 0 f (l .counters) ∙ g .counters };
@@ -510,8 +516,8 @@ module _ (l : Ledger) (q : Queue) (sh : List ℕ) (g : Good l q sh) where
 -- every operation on a record that a ledger leaves
 pub step-kept : (op : Operation) (l : Ledger) (q : Queue) (sh : List ℕ) → Good l q sh → Kept (entryOf op l) (step op (chipFor l q sh))
 unfolding entryOf sendEntry withCounted write read timestampTicks nodeTicks externalEvents send sendInto
-step-kept opReset l q sh g =
-    record { agrees = record { queue = emptyQueue; shadows = replicate 16 0; is = reset-record 0; good = reset-good 0 }; number = refl; value = refl }
+step-kept (opReset hundredth) l q sh g =
+    record { agrees = record { queue = emptyQueue; shadows = replicate 16 0; is = reset-record 0 hundredth; good = reset-good 0 hundredth }; number = refl; value = refl }
 step-kept (opWrite address bits lines) l q sh g = kept-guarded l q sh _ _ g (write-kept l q sh g bits lines address)
 step-kept (opRead address) l q sh g = kept-guarded l q sh _ _ g (read-kept l q sh g address)
 step-kept (opTicks k) l q sh g = kept-guarded l q sh _ _ g (ticks-kept l q sh g k)

@@ -16,6 +16,7 @@ use Rattle.queue.specs.declared.queue.Queue.{Queue}
 use Rattle.chip.specs.Chip.{inside, sentBuffer}
 use Rattle.chip.specs.Operation.{Operation, opReset, opWrite, opRead, opTicks, opNodes, opEvents, opSend, opFill, step}
 use Rattle.chip.specs.declared.chip.Chip.{Chip}
+use Rattle.chip.proofs.ChipLaws.{either as chip·either}
 use Rattle.history.specs.Ledger.{Entry, Fate, Ledger, afterFate, byFate, byRange, fateIn, held, left, lineIn, readIn, readLow, sampleIn, sentMore, tells, entryOf, triggered, vacant, wasFiltered, wasLost, wasOff, wasTaken, wasTold, written, writtenLow}
 use Rattle.history.specs.Run.{comeWithin, streamAfter}
 use Rattle.history.specs.Stream.{anyHeld, wordsOfAll}
@@ -32,8 +33,7 @@ record Stays (l : Ledger) (e : Entry) : Type 0 where
 
 -- whatever a test says
 either : {l : Ledger} {x y : Entry} (b : Bool) → Stays l x → Stays l y → Stays l (cond b x y)
-either true p r = p
-either false p r = r
+either {l} {x} {y} b p r = chip·either (Stays l) b x y p r
 
 stay : (l : Ledger) (e : Entry) → e .ledger .taken ≡ l .taken → e .ledger .sent ≡ l .sent → Stays l e
 stay l e t n = record { is = ap₂ (λ (k : ℕ) (ss : List Sample). take k (wordsOfAll First ss)) n t }
@@ -134,7 +134,7 @@ module _ (l : Ledger) (c : Chip) (a : Agrees l c) where
 
   pub stream-step : (op : Operation) (ws : List ℕ) → ws ≡ take (l .sent) (wordsOfAll First (l .taken)) → streamAfter op c ws ≡ take (entryOf op l .ledger .sent) (wordsOfAll First (entryOf op l .ledger .taken))
   unfolding streamAfter entryOf wordsOfAll written byRange vacant writtenLow
-  stream-step opReset ws e = refl
+  stream-step (opReset hundredth) ws e = refl
   stream-step (opWrite address bits lines) ws e = go (eqb address 0) refl
     where
       go : (b : Bool) → eqb address 0 ≡ b → cond b [] ws ≡ take (written address bits lines l .ledger .sent) (wordsOfAll First (written address bits lines l .ledger .taken))

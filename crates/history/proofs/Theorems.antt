@@ -12,12 +12,14 @@ use borrow.Author.Tests.{lt-ltb}
 use Rattle.samples.specs.declared.edition.Edition.the-variants.{First}
 use Rattle.queue.specs.Queue.{emptyQueue}
 use Rattle.chip.specs.Chip.{fresh, inside}
-use Rattle.chip.specs.Operation.{Operation, opWrite, step}
+use Rattle.chip.specs.Operation.{Operation, opReset, opWrite, opRead, opTicks, opNodes, opEvents, opSend, opFill, step}
+use Rattle.chip.specs.Rows.{checked}
 use Rattle.chip.specs.Shape.{Shaped}
 use Rattle.chip.specs.declared.chip.Chip.{Chip}
 use Rattle.chip.proofs.Bounds.{fresh-shaped, keeps-shaped}
 use Rattle.chip.proofs.Bounds.{never-15 as inside-never-15}
-use Rattle.history.specs.Ledger.{Entry, Fate, Ledger, byFate, fateIn, fateNumber, ledgerFrom, ledgerOf, lineIn, noCounter, resetAt, tells, entryOf, triggered, written}
+use Rattle.chip.proofs.Choice.{choice-stays}
+use Rattle.history.specs.Ledger.{Entry, Fate, Ledger, byFate, choiceFrom, fateIn, fateNumber, ledgerFrom, ledgerOf, lineIn, noCounter, resetAt, tells, entryOf, triggered, written}
 use Rattle.history.specs.Run.{chipOf, comeWithin, runFrom, sentFrom, sentOf, toCome}
 use Rattle.history.specs.Stream.{totalOf, wordsOfAll}
 use Rattle.history.proofs.Addresses.{range-trigger}
@@ -30,8 +32,8 @@ use Rattle.history.proofs.StreamLaws.{come-words, stream-step}
 
 -- ---- the fold
 
-fresh-agrees : Agrees (resetAt 0) fresh
-fresh-agrees = record { queue = emptyQueue; shadows = replicate 16 0; is = reset-record 0; good = reset-good 0 }
+fresh-agrees : Agrees (resetAt 0 false) fresh
+fresh-agrees = record { queue = emptyQueue; shadows = replicate 16 0; is = reset-record 0 false; good = reset-good 0 false }
 
 run-agrees : (ops : List Operation) (l : Ledger) (c : Chip) → Agrees l c → Agrees (ledgerFrom l ops) (runFrom c ops)
 unfolding ledgerFrom runFrom
@@ -39,7 +41,7 @@ run-agrees [] l c a = a
 run-agrees (op ∷ ops) l c a = run-agrees ops (entryOf op l .ledger) (step op c .chip) (agrees-step op l c a .agrees)
 
 agrees : (ops : List Operation) → Agrees (ledgerOf ops) (chipOf ops)
-agrees ops = run-agrees ops (resetAt 0) fresh fresh-agrees
+agrees ops = run-agrees ops (resetAt 0 false) fresh fresh-agrees
 
 run-stream : (ops : List Operation) (l : Ledger) (c : Chip) (ws : List ℕ) → Agrees l c → ws ≡ take (l .sent) (wordsOfAll First (l .taken)) → sentFrom c ws ops ≡ take (ledgerFrom l ops .sent) (wordsOfAll First (ledgerFrom l ops .taken))
 unfolding ledgerFrom sentFrom
@@ -86,7 +88,7 @@ come-enough ops more =
 pub word-sum : (ops : List Operation) → sentOf ops ++ toCome (chipOf ops) ≡ wordsOfAll First (ledgerOf ops .taken)
 unfolding wordsOfAll
 word-sum ops =
-    ap₂ (λ (x y : List ℕ). x ++ y) (run-stream ops (resetAt 0) fresh [] fresh-agrees refl) (to-come ops)
+    ap₂ (λ (x y : List ℕ). x ++ y) (run-stream ops (resetAt 0 false) fresh [] fresh-agrees refl) (to-come ops)
     ∙ take-append-drop (ledgerOf ops .sent) (wordsOfAll First (ledgerOf ops .taken))
 
 -- ---- 3. So their number is 16 for each Trace and 80 for each Resource sample taken
@@ -112,7 +114,30 @@ wait-counts ops = ap (λ (c : Chip). c .control .wait) (agrees ops .is)
 pub timestamp-counts : (ops : List Operation) → chipOf ops .stamp ≡ ledgerOf ops .clock % 2 ^ 56
 timestamp-counts ops = ap (λ (c : Chip). c .stamp) (agrees ops .is)
 
--- ---- 7. The chip never answers 15 on such a list
+-- ---- 7. The slow clock has the speed that the last hardware reset of the list chose, and the tenth where there is none; so has the ledger
+
+pub choice-said : (ops : List Operation) → chipOf ops .switches .hundredth ≡ choiceFrom false ops
+unfolding runFrom choiceFrom
+choice-said ops = go ops fresh
+  where
+    stays : (op : Operation) (os : List Operation) (c : Chip) → checked op ≡ true → choiceFrom (step op c .chip .switches .hundredth) os ≡ choiceFrom (c .switches .hundredth) os
+    stays op os c e = ap (λ (b : Bool). choiceFrom b os) (choice-stays op c e)
+
+    go : (os : List Operation) (c : Chip) → runFrom c os .switches .hundredth ≡ choiceFrom (c .switches .hundredth) os
+    go [] c = refl
+    go (opReset hundredth ∷ os) c = go os _
+    go (opWrite address bits lines ∷ os) c = go os _ ∙ stays (opWrite address bits lines) os c refl
+    go (opRead address ∷ os) c = go os _ ∙ stays (opRead address) os c refl
+    go (opTicks k ∷ os) c = go os _ ∙ stays (opTicks k) os c refl
+    go (opNodes k ∷ os) c = go os _ ∙ stays (opNodes k) os c refl
+    go (opEvents mask ∷ os) c = go os _ ∙ stays (opEvents mask) os c refl
+    go (opSend ∷ os) c = go os _ ∙ stays opSend os c refl
+    go (opFill room ∷ os) c = go os _ ∙ stays (opFill room) os c refl
+
+pub ledger-choice : (ops : List Operation) → ledgerOf ops .hundredth ≡ choiceFrom false ops
+ledger-choice ops = sym (ap (λ (c : Chip). c .switches .hundredth) (agrees ops .is)) ∙ choice-said ops
+
+-- ---- 8. The chip never answers 15 on such a list
 
 pub always-inside : (ops : List Operation) → inside (chipOf ops) ≡ true
 always-inside ops =
@@ -122,7 +147,7 @@ always-inside ops =
 pub never-15 : (ops : List Operation) (op : Operation) → eqb (step op (chipOf ops) .number) 15 ≡ false
 never-15 ops op = inside-never-15 op (chipOf ops) (always-inside ops)
 
--- ---- 8. And its lists have the lengths and widths that their types give
+-- ---- 9. And its lists have the lengths and widths that their types give
 
 pub always-shaped : (ops : List Operation) → Shaped (chipOf ops)
 unfolding runFrom

@@ -39,13 +39,15 @@ pub record Errors : Type 0 where
   pub flagbusy : Bool
   pub mark : Bool
 
--- Timestamp ticks since the hardware reset and since the last reset; "samples taken since the last reset, in order", whole, "and words
--- sent since then"; eight Source Addresses and sixteen counters
+-- Timestamp ticks since the hardware reset and since the last reset; the hardware reset's choice of the slow clock (document 02, Wish 2: yes is
+-- the hundredth); "samples taken since the last reset, in order", whole, "and words sent since then"; eight Source Addresses and sixteen
+-- counters
 pub record Ledger : Type 0 where
   pub settings : Settings
   pub sources : List ℕ
   pub clock : ℕ
   pub ticks : ℕ
+  pub hundredth : Bool
   pub taken : List Sample
   pub sent : ℕ
   pub errors : Errors
@@ -54,14 +56,15 @@ pub record Ledger : Type 0 where
 abbrev pub noCounter : Counter
 noCounter = record { on = false; high = false; low = false; events = 0 }
 
--- "Everything becomes as after a hardware reset except the Timestamp": what a reset leaves
-abbrev pub resetAt : ℕ → Ledger
-resetAt clock =
+-- "Everything becomes as after a hardware reset except the Timestamp", and "Software reset keeps the choice": what a reset leaves
+abbrev pub resetAt : ℕ → Bool → Ledger
+resetAt clock hundredth =
     record {
       settings = record { sampling = false; writewait = false; readwait = false; filter = 0 };
       sources = replicate 8 0;
       clock = clock;
       ticks = 0;
+      hundredth = hundredth;
       taken = [];
       sent = 0;
       errors = record { lost = 0; waits = 0; flagfull = false; flagbusy = false; mark = false };
@@ -71,27 +74,27 @@ resetAt clock =
 -- a ledger with another part
 abbrev pub withSettings : Settings → Ledger → Ledger
 withSettings x l =
-    record { settings = x; sources = l .sources; clock = l .clock; ticks = l .ticks; taken = l .taken; sent = l .sent; errors = l .errors; counters = l .counters }
+    record { settings = x; sources = l .sources; clock = l .clock; ticks = l .ticks; hundredth = l .hundredth; taken = l .taken; sent = l .sent; errors = l .errors; counters = l .counters }
 
 abbrev pub withSources : List ℕ → Ledger → Ledger
 withSources x l =
-    record { settings = l .settings; sources = x; clock = l .clock; ticks = l .ticks; taken = l .taken; sent = l .sent; errors = l .errors; counters = l .counters }
+    record { settings = l .settings; sources = x; clock = l .clock; ticks = l .ticks; hundredth = l .hundredth; taken = l .taken; sent = l .sent; errors = l .errors; counters = l .counters }
 
 abbrev pub withStream : List Sample → ℕ → Ledger → Ledger
 withStream taken sent l =
-    record { settings = l .settings; sources = l .sources; clock = l .clock; ticks = l .ticks; taken = taken; sent = sent; errors = l .errors; counters = l .counters }
+    record { settings = l .settings; sources = l .sources; clock = l .clock; ticks = l .ticks; hundredth = l .hundredth; taken = taken; sent = sent; errors = l .errors; counters = l .counters }
 
 abbrev pub withErrors : Errors → Ledger → Ledger
 withErrors x l =
-    record { settings = l .settings; sources = l .sources; clock = l .clock; ticks = l .ticks; taken = l .taken; sent = l .sent; errors = x; counters = l .counters }
+    record { settings = l .settings; sources = l .sources; clock = l .clock; ticks = l .ticks; hundredth = l .hundredth; taken = l .taken; sent = l .sent; errors = x; counters = l .counters }
 
 abbrev pub withCounters : List Counter → Ledger → Ledger
 withCounters x l =
-    record { settings = l .settings; sources = l .sources; clock = l .clock; ticks = l .ticks; taken = l .taken; sent = l .sent; errors = l .errors; counters = x }
+    record { settings = l .settings; sources = l .sources; clock = l .clock; ticks = l .ticks; hundredth = l .hundredth; taken = l .taken; sent = l .sent; errors = l .errors; counters = x }
 
 abbrev pub withTicks : ℕ → Ledger → Ledger
 withTicks k l =
-    record { settings = l .settings; sources = l .sources; clock = l .clock + k; ticks = l .ticks + k; taken = l .taken; sent = l .sent; errors = l .errors; counters = l .counters }
+    record { settings = l .settings; sources = l .sources; clock = l .clock + k; ticks = l .ticks + k; hundredth = l .hundredth; taken = l .taken; sent = l .sent; errors = l .errors; counters = l .counters }
 
 -- ---- counters
 
@@ -129,9 +132,9 @@ counted kind n k =
 abbrev pub happened : ℕ → (ℕ → Bool) → ℕ → Ledger → Ledger
 happened kind f n l = each (λ i k. cond (f i) (counted kind n k) k) l
 
--- "A slow event falls on every tenth Timestamp tick since the last reset"
-abbrev pub slowIn : ℕ → ℕ → ℕ
-slowIn ticks k = (ticks + k) / 10 - ticks / 10
+-- "A slow event falls on every tenth Timestamp tick since the last reset", or on every hundredth: those in k ticks after so many
+abbrev pub slowIn : Bool → ℕ → ℕ → ℕ
+slowIn hundredth ticks k = cond hundredth ((ticks + k) / 100 - ticks / 100) ((ticks + k) / 10 - ticks / 10)
 
 -- "clear the counters of the set bits", "enable ..", "disable ..": bit i is counter i's
 abbrev pub cleared : ℕ → ℕ → Counter → Counter
@@ -276,7 +279,7 @@ lostCleared e = record { lost = 0; waits = e .waits; flagfull = false; flagbusy 
 -- enables and 12 disables them
 unfoldable pub writtenLow : ℕ → ℕ → Ledger → Entry
 writtenLow a bits l =
-    cond (eqb a 0) (tells 0 0 (resetAt (l .clock)))
+    cond (eqb a 0) (tells 0 0 (resetAt (l .clock) (l .hundredth)))
     (cond (eqb a 1) (tells 0 0 (withSettings (configured bits (l .settings)) l))
     (cond (eqb a 2) (tells 3 0 l)
     (cond (eqb a 4) (tells 0 0 (withSettings (filtering bits (l .settings)) l))
@@ -336,10 +339,10 @@ sentMore room l = withStream (l .taken) (l .sent + min room (left l)) l
 
 -- one operation
 unfoldable pub entryOf : Operation → Ledger → Entry
-entryOf opReset l = tells 0 0 (resetAt 0)
+entryOf (opReset hundredth) l = tells 0 0 (resetAt 0 hundredth)
 entryOf (opWrite address bits lines) l = written address bits lines l
 entryOf (opRead address) l = readIn address l
-entryOf (opTicks k) l = tells 0 0 (withTicks k (happened slow (λ i. true) (slowIn (l .ticks) k) l))
+entryOf (opTicks k) l = tells 0 0 (withTicks k (happened slow (λ i. true) (slowIn (l .hundredth) (l .ticks) k) l))
 entryOf (opNodes k) l = tells 0 0 (happened node (λ i. true) k l)
 entryOf (opEvents mask) l = tells 0 0 (happened external (isSet mask) 1 l)
 entryOf opSend l = cond (eqb (left l) 0) (tells 5 0 l) (tells 0 (getD (wordsOfAll First (l .taken)) (l .sent) 0) (sentMore 1 l))
@@ -352,6 +355,18 @@ unfoldable pub ledgerFrom : Ledger → List Operation → Ledger
 ledgerFrom l [] = l
 ledgerFrom l (op ∷ ops) = ledgerFrom (entryOf op l .ledger) ops
 
--- what a list of operations from a fresh chip says
+-- what a list of operations from a fresh chip says; "A fresh chip has the tenth"
 abbrev pub ledgerOf : List Operation → Ledger
-ledgerOf ops = ledgerFrom (resetAt 0) ops
+ledgerOf ops = ledgerFrom (resetAt 0 false) ops
+
+-- document 02, Wish 2, "the choice in force", a second time: the last hardware reset's, and where there was none the one before
+unfoldable pub choiceFrom : Bool → List Operation → Bool
+choiceFrom b [] = b
+choiceFrom b (opReset hundredth ∷ ops) = choiceFrom hundredth ops
+choiceFrom b (opWrite address bits lines ∷ ops) = choiceFrom b ops
+choiceFrom b (opRead address ∷ ops) = choiceFrom b ops
+choiceFrom b (opTicks k ∷ ops) = choiceFrom b ops
+choiceFrom b (opNodes k ∷ ops) = choiceFrom b ops
+choiceFrom b (opEvents mask ∷ ops) = choiceFrom b ops
+choiceFrom b (opSend ∷ ops) = choiceFrom b ops
+choiceFrom b (opFill room ∷ ops) = choiceFrom b ops

@@ -20,7 +20,7 @@ chipOf ops = runFrom fresh ops
 -- the words sent since the last reset, after one operation more on a record inside its bounds, as every list leaves one: a reset, also a
 -- write at address 0, begins anew; a send that is done adds its value, and a buffer send what it wrote at the start of a buffer
 unfoldable pub streamAfter : Operation → Chip → List ℕ → List ℕ
-streamAfter opReset c ws = []
+streamAfter (opReset hundredth) c ws = []
 streamAfter (opWrite address bits lines) c ws = cond (eqb address 0) [] ws
 streamAfter (opRead address) c ws = ws
 streamAfter (opTicks k) c ws = ws

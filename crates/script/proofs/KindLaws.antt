@@ -75,9 +75,13 @@ module _ (c : Chip) where
   framed t o bad h false zeroed = refl
 
   -- each kind's operation
-  kinds : (address lines bits kind : ℕ) → runOf (byKind kind address lines bits) c ≡ outcomeOf (cond (badKind kind bits) (refusedRecord c) (step (getD (kindList address lines bits) kind opReset) c))
+  kinds : (address lines bits kind : ℕ) → runOf (byKind kind address lines bits) c ≡ outcomeOf (cond (badKind kind bits) (refusedRecord c) (step (getD (kindList address lines bits) kind (opReset false)) c))
   unfolding byKind runOf
-  kinds address lines bits zero = refl
+  kinds address lines zero zero = refl
+  kinds address lines (suc zero) zero = refl
+  kinds address lines (suc (suc n)) zero =
+      let bits = suc (suc n) in
+      simp (le-ltb bits 2 (omega arith), lt-ltb 1 bits (omega arith))
   kinds address lines bits (suc zero) = refl
   kinds address lines bits (suc (suc zero)) = refl
   kinds address lines bits (suc (suc (suc zero))) = tested (step (opTicks bits) c) (Ticks bits) refl (ltb bits (2 ^ 32)) (or-false _ ∙ above 4294967295 bits)

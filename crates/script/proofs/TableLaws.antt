@@ -11,7 +11,7 @@ use Rattle.script.specs.declared.operation.Operation.the-variants.{Bad, 
 pub run-by : (operation : Operation) (c : Chip) → runBy parityTable operation c ≡ runOf operation c
 unfolding runBy runOf
 run-by Bad c = refl
-run-by Reset c = refl
+run-by (Reset hundredth) c = refl
 run-by (Write address bits lines) c = refl
 run-by (Read address) c = refl
 run-by (Ticks k) c = refl

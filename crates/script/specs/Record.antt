@@ -1,4 +1,4 @@
--- Document 01, "Bench program": the records of twelve bytes and what they do.
+-- Document 01, "Bench program": the records of twelve bytes and what they do; document 02, Wish 2: the data of a hardware reset.
 use Prim.Native.Nat.{ℕ, _^_}
 use mathlib.Core.Bool.{cond}
 use mathlib.Core.List.{List}
@@ -16,11 +16,15 @@ use Rattle.script.specs.declared.operation.Outcome.{Outcome}
 abbrev pub fitting : ℕ → (ℕ → Operation) → ℕ → Operation
 fitting width f bits = cond (ltb bits (2 ^ width)) (f bits) Bad
 
+-- "choose by a yes or no, in the bench by its data: 0 tenth, 1 hundredth", and "other data with kind 0 gives 9": a number of one bit
+abbrev pub resetBy : ℕ → Operation
+resetBy bits = Reset (eqb bits 1)
+
 -- "Kinds: 0 hardware reset, 1 write, 2 read, 3 Timestamp ticks, 4 node ticks, 5 external events, 6 send one word. Fields a kind
 -- doesn't need are ignored. Reply 9: kind above 6"
 unfoldable pub byKind : ℕ → ℕ → ℕ → ℕ → Operation
 byKind kind address lines bits =
-    cond (eqb kind 0) Reset
+    cond (eqb kind 0) (fitting 1 resetBy bits)
     (cond (eqb kind 1) (Write address bits lines)
     (cond (eqb kind 2) (Read address)
     (cond (eqb kind 3) (fitting 32 Ticks bits)
@@ -45,7 +49,7 @@ outcomeOf t = record { chip = t .chip; value = t .value; number = t .number }
 -- what a record does; "9 bad bench record", value 0, the record the same
 unfoldable pub runOf : Operation → Chip → Outcome
 runOf Bad c = record { chip = c; value = 0; number = 9 }
-runOf Reset c = outcomeOf (hardReset c)
+runOf (Reset hundredth) c = outcomeOf (hardReset hundredth c)
 runOf (Write address bits lines) c = outcomeOf (write address bits lines c)
 runOf (Read address) c = outcomeOf (read address c)
 runOf (Ticks k) c = outcomeOf (timestampTicks k c)

@@ -12,7 +12,7 @@ use Rattle.script.specs.declared.operation.Outcome.{Outcome}
 unfoldable pub runBy : List ℕ → Operation → Chip → Outcome
 runBy table Send c = outcomeOf (sendBy table c)
 runBy table Bad c = runOf Bad c
-runBy table Reset c = runOf Reset c
+runBy table (Reset hundredth) c = runOf (Reset hundredth) c
 runBy table (Write address bits lines) c = runOf (Write address bits lines) c
 runBy table (Read address) c = runOf (Read address) c
 runBy table (Ticks k) c = runOf (Ticks k) c

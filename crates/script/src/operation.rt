@@ -8,7 +8,7 @@ ghost use Prim.Native.Nat.{_+_, _≤_, _<_, _^_};
 ghost use lib.ListN.{drop, length, take};
 ghost use Rattle.words.specs.Bytes.{number};
 ghost use Rattle.chip.specs.Told.{told};
-ghost use Rattle.script.specs.Record.{byKind, fitting, operationOf, outcomeOf, runOf};
+ghost use Rattle.script.specs.Record.{byKind, fitting, operationOf, outcomeOf, resetBy, runOf};
 ghost use Rattle.script.specs.Table.{runBy};
 
 const TWO_8: u64 = 1 << 8;
@@ -22,7 +22,8 @@ const TWO_32: u64 = 1 << 32;
 // What a record asks for; Bad is reply 9.
 pub enum Operation {
     Bad,
-    Reset,
+    // Whether the slow clock is to be a hundredth of the Timestamp's.
+    Reset(bool),
     // Address, data and processor lines.
     Write(u64, u64, u8),
     Read(u64),
@@ -56,7 +57,7 @@ fn by_kind(kind: u8, address: u8, lines: u8, bits: u64) -> Operation
     ensures { λ r. ⌜ r ≡ byKind kind address lines bits ⌝ }
 {
     match kind {
-        0 => Operation::Reset,
+        0 => reset(bits),
         1 => Operation::Write(address as u64, bits, lines),
         2 => Operation::Read(address as u64),
         3 => ticks(bits),
@@ -65,6 +66,15 @@ fn by_kind(kind: u8, address: u8, lines: u8, bits: u64) -> Operation
         6 => Operation::Send,
         _ => Operation::Bad,
     }
+}
+
+fn reset(bits: u64) -> Operation
+    ensures { λ r. ⌜ r ≡ fitting 1 resetBy bits ⌝ }
+{
+    if bits < 2 {
+        return Operation::Reset(bits == 1);
+    }
+    Operation::Bad
 }
 
 fn ticks(bits: u64) -> Operation
@@ -140,7 +150,7 @@ pub fn run_by(table: &[u8], chip: Chip, operation: Operation) -> Outcome
             value: 0,
             number: 9,
         },
-        Operation::Reset => numbered(chip.hardware_reset()),
+        Operation::Reset(hundredth) => numbered(chip.hardware_reset(hundredth)),
         Operation::Write(address, bits, lines) => numbered(chip.write(address, bits, lines)),
         Operation::Read(address) => numbered(chip.read(address)),
         Operation::Ticks(count) => numbered(chip.timestamp_ticks(count)),

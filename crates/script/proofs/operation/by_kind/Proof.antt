@@ -7,6 +7,9 @@ use Rattle.script.specs.Record.{byKind}
 use Rattle.script.proofs.operation.by_kind.Statement.{statement}
 use Rattle.script.proofs.operation.by_kind.Tie as tie
 
+reset-requires : tie.Need-reset-requires
+reset-requires c κs = search needs
+
 ticks-requires : tie.Need-ticks-requires
 ticks-requires c κs = search needs
 
@@ -19,8 +22,8 @@ events-requires c κs = search needs
 returns : tie.Need-returns
 unfolding byKind
 returns c =
-    let a = c .before .args in
-    ap (λ (k : ℕ). byKind k (a .address) (a .lines) (a .bits)) (sym (c .match .keys1))
+    let a = c .before .before .args in
+    c .reset .ensures ∙ ap (λ (k : ℕ). byKind k (a .address) (a .lines) (a .bits)) (sym (c .before .match .keys1))
 
 returns-2 : tie.Need-returns-2
 unfolding byKind
@@ -68,6 +71,7 @@ pub by-kind-spec : {M : Type 1} → statement M
 by-kind-spec =
     tie.close
     (tie.spec
+    reset-requires
     ticks-requires
     nodes-requires
     events-requires

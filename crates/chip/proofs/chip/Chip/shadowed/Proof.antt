@@ -15,7 +15,7 @@ returns c =
     c .copied .ensures ∙ ap (λ (b : Bool). cond b (copied (a .self .bank)) (a .self .bank)) (sym (c .before .if1 .taken))
 
 returns-2 : tie.Need-returns-2
-returns-2 c = search needs
+returns-2 c = rw (c .before .if1 .left)
 
 pub shadowed-spec : {M : Type 1} → statement M
 shadowed-spec = tie.close (tie.spec copied-requires returns returns-2)

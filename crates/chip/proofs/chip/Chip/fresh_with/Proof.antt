@@ -1,8 +1,8 @@
--- `chip::chip::Chip::fresh_at` meets its contract: the Timestamp, and each other part's zero. Assumes nothing.
+-- `chip::chip::Chip::fresh_with` meets its contract: the Timestamp, and each other part's zero, the switches' with the choice. Assumes nothing.
 use borrow.Author.Needs.{needs}
 use lib.ListN.{replicate}
-use Rattle.chip.proofs.chip.Chip.fresh_at.Statement.{statement}
-use Rattle.chip.proofs.chip.Chip.fresh_at.Tie as tie
+use Rattle.chip.proofs.chip.Chip.fresh_with.Statement.{statement}
+use Rattle.chip.proofs.chip.Chip.fresh_with.Tie as tie
 
 empty-requires : tie.Need-empty-requires
 empty-requires c κs = search needs
@@ -28,5 +28,5 @@ returns c =
       switches = c .zero3 .ensures i;
     }
 
-pub fresh-at-spec : {M : Type 1} → statement M
-fresh-at-spec = tie.close (tie.spec empty-requires zero-requires zero-requires-2 zero-requires-3 returns)
+pub fresh-with-spec : {M : Type 1} → statement M
+fresh-with-spec = tie.close (tie.spec empty-requires zero-requires zero-requires-2 zero-requires-3 returns)
