@@ -1,6 +1,7 @@
 //! The twin: a plain Rust bench for the MultiKron chip in normal mode,
-//! written from document 01 alone. Bracketed words in the comments name the
-//! heading of document 01 that a rule comes from.
+//! written from document 01 and Wish 2 of document 02 alone. Bracketed words
+//! in the comments name the heading of document 01, or the wish of document
+//! 02, that a rule comes from.
 //!
 //! Build: rustc --edition 2021 -O -o OUT twin/main.rs
 
@@ -160,13 +161,16 @@ impl Queue {
 const COUNTERS: usize = 16;
 /// [Counters] Timestamp wraps at 2^56.
 const TIMESTAMP_MASK: u64 = (1 << 56) - 1;
-/// [Counters] A slow event falls on every tenth Timestamp tick.
-const SLOW_PERIOD: u64 = 10;
+/// [Wish 2] Timestamp ticks from one slow event to the next, at each speed.
+const TENTH: u64 = 10;
+const HUNDREDTH: u64 = 100;
 
 /// The whole record of the chip.
 struct Chip {
     timestamp: u64,
-    /// Timestamp ticks since the last slow event or reset, 0 to 9.
+    /// The slow clock is one hundredth of the Timestamp clock, not one tenth.
+    slow_hundredth: bool,
+    /// Timestamp ticks since the last slow event or reset, 0 to 9 or 0 to 99.
     slow_phase: u64,
     sampling: bool,
     write_wait: bool,
@@ -190,10 +194,12 @@ struct Chip {
 }
 
 impl Chip {
-    /// [The chip's operations] Hardware reset gives a fresh chip: all zero.
+    /// [The chip's operations] A fresh chip: all zero. [Wish 2] It has the
+    /// tenth.
     fn new() -> Chip {
         Chip {
             timestamp: 0,
+            slow_hundredth: false,
             slow_phase: 0,
             sampling: false,
             write_wait: false,
@@ -214,14 +220,20 @@ impl Chip {
         }
     }
 
-    fn hardware_reset(&mut self) -> Reply {
-        *self = Chip::new();
+    /// [Wish 2] A fresh chip, but for the speed of the slow clock.
+    fn hardware_reset(&mut self, slow_hundredth: bool) -> Reply {
+        *self = Chip { slow_hundredth, ..Chip::new() };
         done(0)
     }
 
     /// [Software reset] As after a hardware reset, except the Timestamp.
+    /// [Wish 2] The speed of the slow clock is kept too, its phase is not.
     fn software_reset(&mut self) {
-        *self = Chip { timestamp: self.timestamp, ..Chip::new() };
+        *self = Chip {
+            timestamp: self.timestamp,
+            slow_hundredth: self.slow_hundredth,
+            ..Chip::new()
+        };
     }
 
     /// [Address map], column Write.
@@ -312,14 +324,20 @@ impl Chip {
         }
     }
 
-    /// [Counters] MUX field 00 is the slow clock: one event on every tenth
-    /// Timestamp tick since the last reset.
+    /// [Counters], [Wish 2] MUX field 00 is the slow clock: one event on
+    /// every tenth, or every hundredth, Timestamp tick since the last reset.
     fn timestamp_ticks(&mut self, ticks: u32) -> Reply {
         self.timestamp = (self.timestamp + ticks as u64) & TIMESTAMP_MASK;
         let phase = self.slow_phase + ticks as u64;
-        self.slow_phase = phase % SLOW_PERIOD;
+        // A branch for each speed, so that both divisors are constants.
+        let (events, phase) = if self.slow_hundredth {
+            (phase / HUNDREDTH, phase % HUNDREDTH)
+        } else {
+            (phase / TENTH, phase % TENTH)
+        };
+        self.slow_phase = phase;
         let slow = self.enabled & !self.mux_high & !self.mux_low;
-        self.count(slow, (phase / SLOW_PERIOD) as u32);
+        self.count(slow, events as u32);
         done(0)
     }
 
@@ -419,7 +437,8 @@ fn run_record(chip: &mut Chip, record: &[u8; RECORD]) -> Reply {
         return reply(BAD_RECORD);
     }
     match kind {
-        0 => chip.hardware_reset(),
+        // [Wish 2] 0 chooses the tenth, 1 the hundredth.
+        0 if data <= 1 => chip.hardware_reset(data == 1),
         1 => chip.write(address, data, lines),
         2 => chip.read(address),
         3 if data <= u32::MAX as u64 => chip.timestamp_ticks(data as u32),

@@ -1,6 +1,9 @@
 #!/usr/bin/env python3
-"""Builds the twin and checks it from outside, against document 01."""
+"""Builds the twin and checks it from outside, against document 01 and Wish 2
+of document 02."""
 
+import collections
+import itertools
 import os
 import random
 import struct
@@ -15,6 +18,10 @@ ALL = 0xFFFF
 TOP32 = 0xFFFFFFFF
 TOP64 = (1 << 64) - 1
 BUSY = (11, 1 << 63)
+# Wish 2: the slow clock's speeds, each with its data in a hardware reset and
+# its ticks from one slow event to the next; then data that chooses no speed.
+SPEEDS = [("tenth", 0, 10), ("hundredth", 1, 100)]
+NO_SPEED = [2, 3, 255, 256, 257, 1 << 32, (1 << 32) + 1, 1 << 63, TOP64]
 
 # ------------------------------------------------------------- records
 
@@ -23,8 +30,8 @@ def record(kind, address=0, lines=0, data=0, zero=0):
     return struct.pack("<BBBBQ", kind, address, lines, zero, data)
 
 
-def hard():
-    return record(0)
+def hard(speed=0):
+    return record(0, data=speed)
 
 
 def write(address, data=0, lines=0):
@@ -251,7 +258,8 @@ def easy_errors():
     play("hardware reset zeroes the phase", quiet([
         stamp(9), hard(), write(11, 1), stamp(9)]) + [
         (read(32), 0), (stamp(1), 0), (read(32), value(1)), (read(2), value(10))])
-    for name, reset, time in [("software", write(0, TOP64, 255), 12345), ("hardware", hard(), 0)]:
+    for name, reset, time in [("software", write(0, TOP64, 255), 12345), ("hardware", hard(), 0),
+                              ("hardware hundredth", hard(1), 0)]:
         steps = ON + quiet([write(11, ALL), stamp(12345), write(16, 77)])
         steps += [(write(112, 0, 1), 0), (write(112, 0, 1), 8), (reset, 0)]
         steps += ON + [(write(96, 0, 1), 0)] + sends(sample(0, 0, time)) + [(send(), 5)]
@@ -354,17 +362,17 @@ def registers():
 
 def counters():
     fields = [0, 1, 1 << 32, 1 << 32 | 1]  # slow, external, software, node
-    for i in range(16):
-        events = [stamp(10), external(1 << i), write(32 + i), node(1)]
+    for i, (name, speed, period) in itertools.product(range(16), SPEEDS):
+        events = [stamp(period), external(1 << i), write(32 + i), node(1)]
         steps = []
         for kind, field in enumerate(fields):
-            steps += [(hard(), 0), (write(8, field << i), 0)]
+            steps += [(hard(speed), 0), (write(8, field << i), 0)]
             for turn, enable in enumerate([0, 1 << i]):
                 steps += [(write(11, enable), 0)]
                 for place, event in enumerate(events):
                     want = turn if place >= kind else 0
                     steps += [(event, 0), (read(32 + i), value(want))]
-        play("counter %d counts its own kind when enabled" % i, steps)
+        play("counter %d counts its own kind when enabled, at the %s" % (i, name), steps)
     # One event acts on its own counter alone.
     steps = quiet([write(8, 0x0000FFFF00000000), write(11, ALL)])
     for i in range(16):
@@ -396,15 +404,18 @@ def counters():
         total += TOP32
     play("slow counter wraps at 2^32", [(write(11, 1), 0)] + ticks + [
         (read(32), value(total // 10 % (1 << 32))), (read(2), value(total))])
-    for name, tick in [("Timestamp", stamp), ("node", node)]:
-        setup = [write(11, ALL), write(8, 0x0000F0F00000FF00), write(1, 1), write(4, ALL)]
+    for (name, tick), (_, speed, period) in itertools.product(
+            [("Timestamp", stamp), ("node", node)], SPEEDS):
+        setup = [hard(speed), write(11, ALL), write(8, 0x0000F0F00000FF00), write(1, 1),
+                 write(4, ALL)]
         tail = [read(2)] + [read(32 + i) for i in range(16)] + [write(112, 0, 1)] + [send()] * 80
         chance = random.Random(7)
-        for count in [0, 1, 9, 10, 11, 99, 100, 1003]:
-            before = [stamp(chance.randrange(10))]
+        for count in [0, 1, 9, 10, 11, 99, 100, 101, 199, 200, 201, 1003]:
+            before = [stamp(chance.randrange(period))]
             once = run(setup + before + [tick(count)] + tail)[-len(tail):]
             single = run(setup + before + [tick(1)] * count + tail)[-len(tail):]
-            check("%d %s ticks at once and singly" % (count, name), once, single)
+            check("%d %s ticks at once and singly, slow events every %d" % (
+                count, name, period), once, single)
 
     # The shadows.
     play("counter read with the shadows free", quiet([
@@ -423,6 +434,160 @@ def counters():
         [(send(), None)] * 80 + [(read(32), value(4))])
     play("a Trace sample leaves the shadows free", ON + [
         (write(96, 0, 1), 0), (read(32), 0), (read(1), value(1))])
+
+
+# ----------------------------------------------------------- slow clock
+
+
+def speed_shown(speed):
+    """Steps right after a reset that tell the speed and a zero phase."""
+    below, at = [(9, 10), (0, 1)][speed]
+    return [(write(11, 1), 0), (stamp(9), 0), (read(32), 0), (stamp(90), 0),
+            (read(32), value(below)), (stamp(1), 0), (read(32), value(at))]
+
+
+def slow_clock():
+    for count, tenth, hundredth in [(9, 0, 0), (10, 1, 0), (99, 9, 0), (100, 10, 1),
+                                    (199, 19, 1), (200, 20, 2)]:
+        after = [(write(11, ALL), 0), (stamp(count), 0), (read(2), value(count))]
+        play("%d ticks on a fresh chip" % count, after + [(read(32), value(tenth))])
+        play("%d ticks at the tenth" % count,
+             [(hard(0), 0)] + after + [(read(32 + i), value(tenth)) for i in range(16)])
+        play("%d ticks at the hundredth" % count,
+             [(hard(1), 0)] + after + [(read(32 + i), value(hundredth)) for i in range(16)])
+    for name, speed, period in SPEEDS:
+        start = [(hard(speed), 0), (write(11, 1), 0)]
+        steps = list(start)
+        for tick in range(1, 301):
+            steps += [(stamp(1), 0), (read(32), value(tick // period))]
+        play("300 single ticks at the %s" % name, steps)
+        steps = []
+        for first in range(202):
+            steps += start + [(stamp(first), 0), (read(32), value(first // period)),
+                              (stamp(201 - first), 0), (read(32), value(201 // period))]
+        play("201 ticks in two parts at the %s" % name, steps)
+        play("the last counter value at the %s" % name, [(hard(speed), 0)] + quiet([
+            write(8, TOP64), write(11, 1), node(TOP32), write(8, 0), stamp(period - 1)]) + [
+            (read(32), value(TOP32)), (stamp(1), 0), (read(32), 0)])
+        play("the phase runs on at the %s" % name, [(hard(speed), 0)] + quiet([
+            stamp(period - 4), write(11, 1), write(8, 1), stamp(3), node(period),
+            write(8, 0), node(period), stamp(0)]) + [
+            (read(32), 0), (stamp(1), 0), (read(32), value(1))])
+        play("a Resource sample's slow counts at the %s" % name, [(hard(speed), 0)] + ON + quiet([
+            write(11, ALL), stamp(2 * period + 1), write(112, 0, 1), stamp(period)]) + sends(
+            sample(8, 0, 2 * period + 1, 0, [2] * 16)) + [(read(32), value(3))])
+
+        # Resets in the middle of a period.
+        for phase in [0, 1, period // 2, period - 1]:
+            play("software reset zeroes phase %d at the %s" % (phase, name), start + quiet([
+                stamp(phase), write(0), write(11, 1), stamp(period - 1)]) + [
+                (read(32), 0), (stamp(1), 0), (read(32), value(1)),
+                (read(2), value(phase + period))])
+            for later, later_speed, later_period in SPEEDS:
+                play("hardware reset zeroes phase %d, %s to %s" % (phase, name, later),
+                     start + quiet([stamp(phase), hard(later_speed), write(11, 1),
+                                    stamp(later_period - 1)]) + [
+                         (read(32), 0), (stamp(1), 0), (read(32), value(1)),
+                         (read(2), value(later_period))])
+        for data in [0, 1, 2, TOP64]:
+            play("software reset with data %d keeps the %s" % (data, name), start + [
+                (write(0, data, data % 256), 0)] + speed_shown(speed) + [(write(0, data), 0)] +
+                speed_shown(speed) + [(read(2), value(200))])
+
+        # Fields of a hardware reset.
+        for address, lines in itertools.product([0, 1, 2, 127, 128, 255], [0, 1, 3, 255]):
+            for before in [0, 1]:
+                play("hardware reset with address %d and lines %d, to the %s" % (
+                    address, lines, name), [(hard(before), 0), (stamp(55), 0)] + ON + [
+                    (record(0, address, lines, speed), 0), (read(2), 0), (read(1), 0),
+                    (read(4), 0)] + speed_shown(speed))
+        bad = [record(0, data=data) for data in NO_SPEED]
+        bad += [record(0, 255, 255, data) for data in NO_SPEED]
+        bad += [record(0, 0, 0, data, zero) for data in [0, 1, 2] for zero in [1, 128, 255]]
+        for each in bad:
+            play("refused hardware reset %s at the %s" % (each.hex(), name), unchanged_by(
+                [(each, 9), (each, 9)], speed, period))
+
+        # The report's bits 14 and 15 of the CSR aren't taken up.
+        for bits in [1 << 14, 1 << 15, 3 << 14]:
+            play("CSR bits %x at the %s" % (bits, name), unchanged_by(
+                [(write(1, bits), 0)], speed, period))
+            play("CSR bits %x with settings at the %s" % (bits, name), start + [
+                (write(1, bits), 0), (read(1), 0), (write(1, bits | 0x15), 0),
+                (read(1), value(0x15)), (write(1, bits), 0), (read(1), value(0x15)),
+                (write(1, bits | 0x2A), 0), (read(1), 0)] + speed_shown(speed) + [
+                (write(1, bits), 0), (write(0), 0), (read(1), 0)] + speed_shown(speed))
+
+    # The last hardware reset chooses, software resets keep the choice.
+    for length in range(5):
+        for resets in itertools.product(["tenth", "hundredth", "software"], repeat=length):
+            steps, speed, time = [], 0, 0
+            for reset in resets:
+                steps.append((stamp(55), 0))
+                time += 55
+                if reset == "software":
+                    steps.append((write(0), 0))
+                else:
+                    speed, time = int(reset == "hundredth"), 0
+                    steps.append((hard(speed), 0))
+            play("resets: %s" % " ".join(resets),
+                 steps + [(read(2), value(time))] + speed_shown(speed))
+    play("two software resets in a row", [(hard(1), 0), (write(0), 0), (write(0), 0)] +
+         speed_shown(1) + [(hard(0), 0)] + speed_shown(0))
+
+    # Large counts: 42,949,672 hundreds and 95, 429,496,729 tens and 5.
+    play("the largest count at the hundredth", quiet([hard(1), write(11, ALL), stamp(TOP32)]) + [
+        (read(2), value(TOP32)), (read(32), value(42949672)), (stamp(4), 0),
+        (read(32), value(42949672)), (stamp(1), 0), (read(47), value(42949673)),
+        (stamp(TOP32), 0), (read(32), value(85899345)), (read(2), value(2 * TOP32 + 5))])
+    play("the largest count from the last phase, hundredth", quiet([
+        hard(1), write(11, ALL), stamp(99), stamp(TOP32)]) + [
+        (read(32), value(42949673)), (stamp(5), 0), (read(32), value(42949673)),
+        (stamp(1), 0), (read(32), value(42949674))])
+    play("the largest count from the last phase, tenth", quiet([
+        hard(0), write(11, ALL), stamp(9), stamp(TOP32)]) + [
+        (read(32), value(429496730)), (stamp(5), 0), (read(32), value(429496730)),
+        (stamp(1), 0), (read(32), value(429496731))])
+    chance = random.Random(11)
+    splits = [[TOP32], [1, TOP32 - 1], [99, TOP32 - 99], [TOP32 - 100, 100], [TOP32 - 95, 95],
+              [1 << 31, (1 << 31) - 1], [9, 10, 11, 99, 100, 101, TOP32 - 330]]
+    for parts in [2, 3, 5, 8, 13]:
+        cuts = sorted(chance.randrange(TOP32) for _ in range(parts - 1))
+        splits.append([end - begin for begin, end in zip([0] + cuts, cuts + [TOP32])])
+    for (name, speed, period), split in itertools.product(SPEEDS, splits):
+        steps, total = quiet([hard(speed), write(11, 1)]), 0
+        for count in split:
+            total += count
+            steps += [(stamp(count), 0), (read(32), value(total // period))]
+        to_event = period - TOP32 % period
+        steps += [(read(2), value(TOP32)), (stamp(to_event - 1), 0),
+                  (read(32), value(TOP32 // period)), (stamp(1), 0),
+                  (read(32), value(TOP32 // period + 1))]
+        play("%d ticks at the %s as %s" % (TOP32, name, split), steps)
+    play("slow counter wraps at 2^32, hundredth", quiet([hard(1), write(11, 1)] +
+         [stamp(TOP32)] * 120) + [(read(32), value(120 * TOP32 // 100 - (1 << 32)))])
+
+
+def unchanged_by(idle, speed, period):
+    """Steps around some idle ones, which may change nothing of a busy chip:
+    no register, no counter, no sample, neither phase, speed nor Timestamp."""
+    steps = [(hard(speed), 0)] + ON + quiet([write(1, 0x14), write(8, 0x0000AAAA0000FFFE)])
+    steps += quiet([write(16 + i, 70 + i) for i in range(8)])
+    steps += quiet([write(11, 0x7FFF), stamp(3 * period - 1), node(6), external(0x0010)])
+    steps += quiet([write(96, 7, 1), write(97, 8, 2)])
+    steps += sends(sample(0, 70, 3 * period - 1, 7))[:5] + idle
+    steps += [(read(1), value(0x15)), (read(2), value(3 * period - 1)), (read(4), value(ALL)),
+              (read(5), 0), (read(6), 0), (read(8), value(0x0000AAAA0000FFFE)),
+              (read(11), value(0x7FFF))]
+    steps += [(read(16 + i), value(70 + i)) for i in range(8)]
+    counts = [2] + [6 if i % 2 else 0 for i in range(1, 15)] + [0]
+    counts[4] = 1
+    steps += [(read(32 + i), value(counts[i])) for i in range(16)]
+    steps += sends(sample(0, 70, 3 * period - 1, 7))[5:] + idle
+    steps += sends(sample(1, 71, 3 * period - 1, 8)) + [(send(), 5)] + idle
+    for ticks, count in [(1, 3), (period - 1, 3), (1, 4)]:
+        steps += [(stamp(ticks), 0)] + idle + [(read(32), value(count))]
+    return steps
 
 
 # ------------------------------------------------------------- triggers
@@ -581,7 +746,8 @@ def record_format():
         (record(3, 255, 255, 4), 0), (record(4, 255, 255, 4), 0), (record(5, 255, 255, 4), 0),
         (record(2, 2, 255, TOP64), value(4)), (record(1, 4, 255, 3), 0), (read(4), value(3)),
         (record(6, 255, 255, TOP64), 5), (record(1, 128, 1, 1), 1), (record(1, 255, 0, 1), 1),
-        (record(0, 255, 255, TOP64), 0), (read(2), 0), (read(4), 0)])
+        (record(0, 255, 255, TOP64), 9), (read(2), value(4)), (read(4), value(3)),
+        (record(0, 255, 255, 1), 0), (read(2), 0), (read(4), 0)])
 
     # Records across the borders of reads, and many blocks.
     chance = random.Random(3)
@@ -619,16 +785,23 @@ def in_pieces(data, size):
 
 
 def long_input():
-    """2^24 records bring the Timestamp to its end, in constant memory."""
+    """2^24 records bring the Timestamp to its end, in constant memory. The
+    slow clock goes on over that end: 2^56 ticks are 36 above a hundred."""
     pipe = subprocess.PIPE
     running = subprocess.Popen([program], stdin=pipe, stdout=pipe, bufsize=0)
     block = stamp(TOP32) * 4096
+    head = hard(1) + write(11, 1)
+    slow = value((1 << 56) // 100 % (1 << 32))
+    slow_next = value(((1 << 56) // 100 + 1) % (1 << 32))
     tail = ON + [(stamp((1 << 24) - 1), 0), (read(2), value((1 << 56) - 1)),
                  (write(96, 0, 1), 0), (stamp(1), 0), (read(2), 0), (stamp(6), 0),
                  (read(2), value(6)), (write(96, 0, 1), 0)]
     tail += sends(sample(0, 0, (1 << 40) - 1)) + sends(sample(0, 0, 6))
+    tail += [(read(32), slow), (stamp(57), 0), (read(32), slow), (stamp(1), 0),
+             (read(32), slow_next), (read(2), value(64))]
 
     def feed():
+        running.stdin.write(head)
         for _ in range(4096):
             running.stdin.write(block)
         running.stdin.write(b"".join(step[0] for step in tail))
@@ -651,7 +824,7 @@ def long_input():
     for _, answer in tail:
         want.append("%d %d" % (answer if isinstance(answer, tuple) else (answer, 0)))
     check("long input: exit", status, 0)
-    check("long input: number of lines", lines, 1 + (1 << 24) + len(tail))
+    check("long input: number of lines", lines, 1 + 2 + (1 << 24) + len(tail))
     check("Timestamp wraps at 2^56", end.decode("ascii").split("\n")[:-1][-len(want):], want)
     scale = 1 if sys.platform == "darwin" else 1024
     check("long input: memory below 64 MiB", usage.ru_maxrss * scale < 64 << 20, True)
@@ -661,11 +834,12 @@ def long_input():
 
 
 class Slow:
-    """Document 01 again, with no thought for speed: every tick singly, the
-    held samples told from the samples taken and the words sent."""
+    """Document 01 and Wish 2 again, with no thought for speed: every tick
+    singly, the held samples told from the samples taken and the words sent."""
 
-    def __init__(self):
+    def __init__(self, slow_period=10):
         self.time = 0
+        self.slow_period = slow_period
         self.reset()
 
     def reset(self):
@@ -704,8 +878,10 @@ class Slow:
         kind, address, lines, zero, number = struct.unpack("<BBBBQ", data)
         if kind > 6 or zero or kind in (3, 4) and number > TOP32 or kind == 5 and number > ALL:
             return (9, 0)
+        if kind == 0 and number not in (0, 1):
+            return (9, 0)
         if kind == 0:
-            self.__init__()
+            self.__init__({0: 10, 1: 100}[number])
         elif kind == 1:
             return self.write(address, number, lines)
         elif kind == 2:
@@ -714,7 +890,7 @@ class Slow:
             for _ in range(number):
                 self.time = (self.time + 1) % 2**56
                 self.ticks_since_reset += 1
-                if self.ticks_since_reset % 10 == 0:
+                if self.ticks_since_reset % self.slow_period == 0:
                     for i in range(16):
                         self.event(i, 0)
         elif kind == 4:
@@ -821,17 +997,37 @@ class Slow:
                     8: self.mux, 11: enabled}[address])
 
 
+def set_up(chance):
+    """Most often what a script needs after a reset, else nothing."""
+    if chance.random() < 0.1:
+        return []
+    return [write(1, chance.choice([1, 5, 0x11, 0x15])), write(4, ALL), write(11, ALL),
+            write(8, chance.getrandbits(64))]
+
+
+def any_reset(chance):
+    """A reset of either kind, to either speed, its idle fields at random."""
+    address, lines = chance.randrange(256), chance.randrange(256)
+    return chance.choice([write(0, chance.randrange(3), lines), record(0, address, lines, 0),
+                          record(0, address, lines, 1)])
+
+
+def tick_count(chance):
+    """A small count, or one just below, at or just above tens or hundreds."""
+    if chance.random() < 0.5:
+        return chance.randrange(40)
+    return chance.choice([10, 100]) * chance.randrange(1, 4) + chance.choice([-1, 0, 1])
+
+
 def random_records(chance, length):
     """Records of a random temper: some scripts trigger much, some send much."""
-    weights = [chance.random() ** 2 for _ in range(12)]
-    records = []
-    if chance.random() < 0.9:
-        records = [write(1, chance.choice([1, 5, 0x11, 0x15])), write(4, ALL), write(11, ALL),
-                   write(8, chance.getrandbits(64))]
+    weights = [chance.random() ** 2 for _ in range(13)]
+    records = [hard(1)] if chance.random() < 0.5 else []
+    records += set_up(chance)
     while len(records) < length:
         data = chance.getrandbits(chance.choice([4, 16, 48, 64]))
         line = 1 << chance.randrange(8)
-        what = chance.choices(range(12), weights)[0]
+        what = chance.choices(range(13), weights)[0]
         if what == 0:
             records.append(write(96 + chance.randrange(16), data, line))
         elif what == 1:
@@ -839,7 +1035,7 @@ def random_records(chance, length):
         elif what == 2:
             records += [send()] * chance.choice([1, 2, 15, 16, 17, 79, 80, 81])
         elif what == 3:
-            records.append(stamp(chance.randrange(40)))
+            records.append(stamp(tick_count(chance)))
         elif what == 4:
             records.append(node(chance.randrange(20)))
         elif what == 5:
@@ -855,25 +1051,82 @@ def random_records(chance, length):
             records.append(write(address, data, chance.randrange(256)))
         elif what == 10 and chance.random() < 0.1:
             records.append(chance.choice([
-                write(0), hard(), write(4, data), write(chance.randrange(256), data, line),
+                any_reset(chance), write(4, data), write(chance.randrange(256), data, line),
                 write(96 + chance.randrange(32), data, chance.randrange(256))]))
         elif what == 11 and chance.random() < 0.1:
             records.append(chance.choice([
-                stamp(1 << 32), node(TOP64), external(1 << 16), record(7 + chance.randrange(249)),
+                stamp(1 << 32), node(TOP64), external(1 << 16), hard(chance.choice(NO_SPEED)),
+                record(7 + chance.randrange(249)),
                 record(chance.randrange(7), chance.randrange(256), 1, data,
                        1 + chance.randrange(255))]))
+        elif what == 12 and chance.random() < 0.2:
+            records += [any_reset(chance)] + set_up(chance)
     return records
 
 
+def speed_records(chance, length):
+    """Records about the slow clock: resets of both kinds in the middle of a
+    run, and ticks to just below, at and just above a slow event."""
+    records, since_reset = [], 0
+    while len(records) < length:
+        what = chance.choices(range(6), [60, 20, 6, 6, 6, 2])[0]
+        if what == 0:
+            period = chance.choice([10, 100])
+            to_event = period - since_reset % period
+            count = chance.choice([
+                to_event - 1, to_event, to_event + 1, to_event + period * chance.randrange(4),
+                tick_count(chance), chance.randrange(250)])
+            records += [stamp(count), read(32 + chance.randrange(16))]
+            since_reset += count
+        elif what == 1:
+            records += [any_reset(chance) for _ in range(chance.choice([1, 1, 1, 2, 3]))]
+            records += [write(11, ALL)] if chance.random() < 0.9 else []
+            since_reset = 0
+        elif what == 2:
+            bad = chance.choice([(chance.choice(NO_SPEED), 0),
+                                 (chance.randrange(2), chance.randrange(1, 256))])
+            records.append(record(0, chance.randrange(256), chance.randrange(256), *bad))
+        elif what == 3:
+            records += [write(1, chance.randrange(1, 4) << 14), read(1)]
+        elif what == 4:
+            mux = 1 << chance.randrange(16) + 32 * chance.randrange(2)
+            records += [write(chance.choice([11, 12]), chance.getrandbits(16)),
+                        write(8, chance.choice([0, 0, mux])), node(3)]
+        else:
+            records += [write(1, 1), write(4, ALL), write(112, 5, 4)] + [send()] * 80
+    return records
+
+
+def step_and_note(slow, each, met):
+    """One step of the slow model, and what it meets of the slow clock."""
+    period, reply = slow.slow_period, slow.step(each)
+    if each[0] == 0 and reply == (0, 0):
+        met["hardware reset", period, slow.slow_period] += 1
+    elif each[:2] == bytes([1, 0]) and reply == (0, 0):
+        met["software reset", period] += 1
+    elif each[0] == 3 and reply == (0, 0):
+        phase = slow.ticks_since_reset % period
+        if phase in (period - 1, 0, 1):
+            met["ticks to phase", phase, period] += 1
+    return reply
+
+
 def random_scripts():
-    seen = set()
-    for seed in range(300):
-        records = random_records(random.Random(seed), 300)
+    seen, met = set(), collections.Counter()
+    for seed in range(600):
+        some_records = random_records if seed < 300 else speed_records
+        records = some_records(random.Random(seed), 300)
         slow = Slow()
-        want = [slow.step(each) for each in records]
+        want = [step_and_note(slow, each, met) for each in records]
         seen |= {number for number, _ in want}
         check("random script %d" % seed, run(records), want)
     check("random scripts meet every reply", seen, set(range(12)))
+    often = [("hardware reset", old, new) for old in (10, 100) for new in (10, 100)]
+    for period in (10, 100):
+        often.append(("software reset", period))
+        often += [("ticks to phase", phase, period) for phase in (period - 1, 0, 1)]
+    for what in often:
+        check("random scripts often meet %s %s" % (what[0], what[1:]), met[what] >= 500, True)
 
 
 def main():
@@ -891,6 +1144,7 @@ def main():
         address_map()
         registers()
         counters()
+        slow_clock()
         triggers()
         record_format()
         random_scripts()
