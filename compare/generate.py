@@ -10,8 +10,11 @@ seed a smaller COUNT gives the beginning of the larger file (but see the
 Timestamp's wrap), so that a difference found can be cut down.
 
 A file is a chain of stretches of about 200 to 3,000 records (noise: to 800;
-short ones are likelier), each in one mode. The seed chooses which modes are frequent. Most stretches go on from
-the state the last one left; some start with a hardware or software reset.
+short ones are likelier), each in one mode. The seed chooses which modes are
+frequent. Most stretches go on from the state the last one left; some start with
+a hardware or software reset. A hardware reset chooses the slow clock's tenth or
+hundredth, one as often as the other, so about every second one changes the
+speed.
 
     queue      triggers, sends and looks in balance, full queues, losses, waits
     triggers   the same with many triggers: full for most of the time
@@ -19,23 +22,27 @@ the state the last one left; some start with a hardware or software reset.
     resets     the same with software and hardware resets, many in the middle of
                a sample
     counters   MUX SEL, enable, disable, clear, the four kinds of event, reads
-               with the shadows free and busy
+               with the shadows free and busy, resets of both kinds
     wraps      counters driven over 2^32: by node ticks close to 2^32, then by
-               each kind of event; by ten records of 2^32 - 1 Timestamp ticks
-               for the slow clock
-    stamps     Timestamp ticks around every tenth tick and around multiples of
-               2^32 and of 2^40, where a sample's Timestamp wraps
+               each kind of event; for the slow clock by records of 2^32 - 1
+               Timestamp ticks, ten at the tenth and a hundred at the hundredth
+    stamps     Timestamp ticks around slow events and around multiples of 2^32
+               and of 2^40, where a sample's Timestamp wraps
+    slow       the slow clock at both speeds: counts that end one before, on and
+               one after a slow event, counters read there, resets of both kinds
+               between two slow events, refused ones, CSR bits 14 and 15
     registers  each register written with all sorts of data and read back; CSR
-               with both bits of its pairs
+               with both bits of its pairs and with bits that do nothing
     sweep      every address from 0 to 255 written and read, in changing order
     mixed      all operations, all addresses, all sorts of data, few resets
     near       records close to legal ones, each field wrong now and then
     noise      random bytes
 
 Into all but the last two come bad records now and then (a bad kind, a nonzero
-fourth byte, a tick count above 2^32 - 1, a mask above 65535), and about one
-record in sixteen gets odd bits where they must be ignored: fields its kind
-doesn't need, and data bits beyond a register's width.
+fourth byte, a tick count above 2^32 - 1, a mask above 65535, a hardware reset
+with data above 1), and about one record in sixteen gets odd bits where they
+must be ignored: fields its kind doesn't need, and data bits beyond a register's
+width.
 
 A part of a record: a file of a SEED that leaves 15 when divided by 16 ends
 with 1 to 11 bytes more than COUNT records. `--ragged` does so for any seed,
@@ -44,12 +51,12 @@ with 1 to 11 bytes more than COUNT records. `--ragged` does so for any seed,
 The Timestamp's wrap at 2^56 needs more than 2^24 records of ticks. A file of a
 SEED that leaves 3 when divided by 4, with a COUNT of at least 16,842,752
 (2^24 + 2^16, about 202 million bytes), begins with them, crosses the wrap
-taking samples, and goes on as usual. Smaller files don't reach it, so it has to
-be covered elsewhere. The same holds for the wraps of the Wait and Overrun
-Counters, which no file reaches: they need 2^32 records.
+taking samples, reads slow counts, and goes on as usual. Smaller files don't
+reach it, so it has to be covered elsewhere. The same holds for the wraps of the
+Wait and Overrun Counters, which no file reaches: they need 2^32 records.
 
-The maker keeps a guess of the chip's settings and queue to steer by. It
-only shapes the records and says nothing about the right answers.
+The maker keeps a guess of the chip's settings, queue and slow clock to steer by.
+It only shapes the records and says nothing about the right answers.
 """
 
 import os
@@ -70,8 +77,11 @@ MOST_64 = 2**64 - 1
 MOST_TICKS = 2**32 - 1
 STAMP_WRAP = 2**56
 
+# A hardware reset's data for the slow clock's two speeds, and the Timestamp ticks from one slow event to the next.
+TENTH, HUNDREDTH = 0, 1
+PERIODS = (10, 100)
+
 ONE_SEND = record(SEND, 0, 0, 0, 0)
-ONE_RESET = record(RESET, 0, 0, 0, 0)
 MOST_TICKS_RECORD = record(TICKS, 0, 0, 0, MOST_TICKS)
 
 # Files at least this long, of certain seeds, cross the Timestamp's wrap.
@@ -84,7 +94,7 @@ HAS_ONE_LINE = [n in (1, 2, 4, 8, 16, 32, 64, 128) for n in range(256)]
 
 # CSR data that mostly keeps sampling on: single settings, pairs with both bits, bits that do nothing.
 CSR_DATA = [0x01, 0x05, 0x09, 0x11, 0x21, 0x15, 0x25, 0x19, 0x29, 0x04, 0x08, 0x10, 0x20, 0x14, 0x28, 0x00,
-            0x0D, 0x31, 0x3D, 0x3C, 0x0C, 0x30, 0x02, 0x03, 0x3F, 0x2A, 0x17, 0x2B, 0xC0, 0x3C1, 0x41, 0x85]
+            0x0D, 0x31, 0x3D, 0x3C, 0x0C, 0x30, 0x02, 0x03, 0x3F, 0x2A, 0x17, 0x2B, 0xC0, 0x3C1, 0x4001, 0x8085]
 
 MUX_NODE = 0x0000FFFF_0000FFFF
 MUX_SOFTWARE = 0x0000FFFF_00000000
@@ -97,8 +107,18 @@ MUX_DATA = [MUX_NODE, MUX_SOFTWARE, MUX_EXTERNAL, MUX_SLOW, 0x0000AAAA_0000FFFF,
 LOOKS = [CSR, CSR, CSR, OVERRUN, OVERRUN, WAIT, WAIT, TIMESTAMP, ENABLE, MUX, FILTER, SOURCE, SOURCE + 7,
          COUNTER, COUNTER + 7, COUNTER + 15]
 
-TICK_COUNTS = [0, 1, 1, 2, 3, 5, 8, 9, 9, 10, 10, 11, 19, 20, 21, 99, 100, 1000, 65535, 65536, 2**31, 2**32 - 10,
-               2**32 - 9, 2**32 - 6, 2**32 - 5, 2**32 - 2, 2**32 - 1, 2**32 - 1, 4, 6, 7, 15]
+# The first sixteen are small. Multiples of ten and of a hundred have their neighbours; 2^32 - 96 is one of both.
+TICK_COUNTS = [0, 1, 1, 2, 3, 5, 9, 9, 10, 10, 11, 20, 21, 99, 100, 101,
+               4, 6, 7, 8, 15, 19, 29, 30, 31, 50, 89, 90, 91, 109, 110, 111,
+               199, 200, 201, 299, 300, 301, 990, 999, 1000, 1001, 1009, 1010, 1011, 9999, 10000, 65535,
+               65536, 2**31, 2**32 - 97, 2**32 - 96, 2**32 - 95, 2**32 - 10, 2**32 - 9, 2**32 - 7, 2**32 - 6, 2**32 - 5,
+               2**32 - 2, 2**32 - 2, 2**32 - 1, 2**32 - 1, 2**32 - 1, 2**32 - 1]
+
+# How many slow events a steered count of ticks leaves out before the one that it aims at.
+EVENTS_BEFORE = [0, 0, 0, 0, 0, 0, 0, 0, 0, 0, 1, 1, 2, 3, 9, 99]
+
+# Data that a hardware reset refuses, some of it with a good number in its low byte or half.
+BAD_RESET_DATA = [2, 3, 256, 257, 2**32, 2**32 + 1, 2**63, MOST_64]
 
 # Addresses of the mixed modes: those with a meaning often, all others too.
 KNOWN = [0, 1, 1, 1, 2, 4, 4, 5, 6, 6, 8, 8, 10, 11, 11, 12] + list(range(16, 24)) + list(range(32, 48)) \
@@ -152,14 +172,19 @@ class Maker:
     def __init__(self, seed):
         self.draw = splitmix64(seed)
         self.out = bytearray()
-        self.timestamp = 0
-        self.forget()
+        self.guess_hard_reset(TENTH)
         self.modes = self.chosen_modes()
 
     # ---- the guess ----
 
+    def guess_hard_reset(self, speed):
+        self.timestamp = 0
+        self.period = PERIODS[speed]  # Timestamp ticks from one slow event to the next
+        self.forget()
+
     def forget(self):
-        """What both resets do; the Timestamp is the hardware reset's alone."""
+        """What both resets do; the Timestamp and the slow clock's speed are the hardware reset's alone."""
+        self.phase = 0        # Timestamp ticks since the last slow event, or since the reset
         self.sampling = False
         self.filter = 0
         self.held = []        # words left of each held sample, oldest first
@@ -187,6 +212,10 @@ class Maker:
             if self.held_kinds.pop(0):
                 self.busy = False
 
+    def guess_ticks(self, count):
+        self.timestamp = (self.timestamp + count) % STAMP_WRAP
+        self.phase = (self.phase + count) % self.period
+
     def guess_csr(self, data):
         if data & 2:
             self.sampling = False
@@ -209,10 +238,10 @@ class Maker:
             self.guess_sends(1)
         elif kind == TICKS:
             if data <= MOST_TICKS:
-                self.timestamp = (self.timestamp + data) % STAMP_WRAP
+                self.guess_ticks(data)
         elif kind == RESET:
-            self.forget()
-            self.timestamp = 0
+            if data <= HUNDREDTH:
+                self.guess_hard_reset(data)
 
     # ---- single records ----
 
@@ -237,7 +266,12 @@ class Maker:
 
     def put_ticks(self, count):
         self.out += record(TICKS, 0, 0, 0, count)
-        self.timestamp = (self.timestamp + count) % STAMP_WRAP
+        self.guess_ticks(count)
+
+    def put_most_ticks(self, amount):
+        """So many records with the highest count."""
+        self.out += MOST_TICKS_RECORD * amount
+        self.guess_ticks(amount * MOST_TICKS)
 
     def put_csr(self, data):
         self.out += record(WRITE, CSR, 0, 0, data)
@@ -249,11 +283,18 @@ class Maker:
 
     def put_reset(self, hardware):
         if hardware:
-            self.out += ONE_RESET
-            self.timestamp = 0
+            speed = self.draw() & 1
+            self.out += record(RESET, 0, 0, 0, speed)
+            self.guess_hard_reset(speed)
         else:
             self.out += record(WRITE, SOFT_RESET, 0, 0, 0)
-        self.forget()
+            self.forget()
+
+    def put_bad_reset(self, number):
+        """A hardware reset with data above 1: a striking number, one bit beside a good number, or anything above."""
+        striking = BAD_RESET_DATA[number >> 2 & 7]
+        data = (striking, striking, 2 << (number >> 5) % 63 | number >> 50 & 1, number | 2)[number & 3]
+        self.out += record(RESET, 0, 0, 0, data)
 
     def put_bad(self):
         """A record that gets reply 9 and must change nothing."""
@@ -264,11 +305,17 @@ class Maker:
             # A kind above 6, otherwise like a write that would matter.
             kind = 7 if number & 8 else 7 + (number >> 16) % 249
             self.out += record(kind, KNOWN[(number >> 4) % len(KNOWN)], LINES[number >> 10 & 63], 0, data)
-        elif choice < 5:
+        elif choice < 4:
             # A good record but for its fourth byte; resets and sends are among them.
             kind = (number >> 3) % 7
             fourth = 1 << (number >> 20 & 7)
-            self.out += record(kind, KNOWN[(number >> 6) % len(KNOWN)], LINES[number >> 12 & 63], fourth, data >> 48)
+            data >>= 48
+            if kind == RESET:
+                data &= 1
+            self.out += record(kind, KNOWN[(number >> 6) % len(KNOWN)], LINES[number >> 12 & 63], fourth, data)
+        elif choice == 4:
+            # A hardware reset that chooses no speed.
+            self.put_bad_reset(data)
         elif choice < 7:
             # Too many ticks: just above, one high bit, or anything above.
             kind = NODE if number & 8 else TICKS
@@ -300,13 +347,18 @@ class Maker:
         """One event record of some kind, with a small or a striking count."""
         choice = number & 3
         if choice == 0:
-            self.put_ticks(TICK_COUNTS[number >> 2 & 31])
+            self.put_ticks(self.count_to_slow_event(number >> 2) if number & 0x100 else TICK_COUNTS[number >> 2 & 63])
         elif choice == 1:
-            self.out += record(NODE, 0, 0, 0, TICK_COUNTS[number >> 2 & 31])
+            self.out += record(NODE, 0, 0, 0, TICK_COUNTS[number >> 2 & 63])
         elif choice == 2:
             self.out += record(EVENTS, 0, 0, 0, number >> 2 & 0xFFFF)
         else:
             self.put_write(COUNTER + (number >> 2 & 15), 0)
+
+    def count_to_slow_event(self, number):
+        """Timestamp ticks that end one before, on or one after a slow event, mostly the next one."""
+        left = self.period * (1 + EVENTS_BEFORE[number >> 2 & 15]) - self.phase
+        return left + (-1, 0, 0, 1)[number & 3]
 
     def all_sorts_of_data(self):
         number = self.draw()
@@ -479,9 +531,11 @@ class Maker:
                     self.put_sends(sum(self.held) if number & 3 else self.some_sends(number >> 2))
             elif choice == 30:
                 self.put_bad()
-            elif number & 15 == 0:
-                self.put_reset(number & 16)
+            elif number & 1:
+                self.put_reset(number & 2)
                 self.put_write(ENABLE, 0xFFFF)
+                if number & 4:
+                    self.put_write(MUX, MUX_DATA[number >> 3 & 7])
             else:
                 self.put_read(CSR)
 
@@ -498,12 +552,11 @@ class Maker:
                 self.put_write(CLEAR, 0xFFFF)
             ending = number >> 8 & 7
             if number >> 11 & 7 == 0:
-                # The slow clock alone: ten records of 2^32 - 1 ticks are 2^32 - 1 slow events.
+                # The slow clock alone: 2^32 - 1 slow events, ten or a hundred ticks for each.
                 self.put_write(MUX, MUX_SLOW)
                 if number >> 14 & 1:
                     self.put_ticks(few)
-                out += MOST_TICKS_RECORD * 10
-                self.timestamp = (self.timestamp + 10 * MOST_TICKS) % STAMP_WRAP
+                self.put_most_ticks(self.period)
                 ending = 3
             else:
                 self.put_write(MUX, MUX_NODE)
@@ -521,9 +574,10 @@ class Maker:
                 elif ending == 2:
                     out += record(EVENTS, 0, 0, 0, step >> 8 & 0xFFFF | step >> 24 & 0xFFFF)
                 elif ending == 3:
-                    self.put_ticks((1, 5, 9, 10, 10, 11, 20, 31)[step & 7])
+                    self.put_ticks(self.count_to_slow_event(step) if step & 0x700 else step >> 11 & 31)
                 else:
-                    self.put_events(step >> 8 if step & 1 else step >> 8 & ~0x7C)
+                    # Every second count is a small one.
+                    self.put_events(step >> 8 if step & 1 else step >> 8 & ~0xFC | 4)
                 if step >> 60 < 8:
                     self.put_read(COUNTER + (number >> 16 & 15))
             if number >> 30 & 3 == 0:
@@ -535,8 +589,8 @@ class Maker:
                 self.put_sends(max(1, sum(self.held)))
             if number >> 58 == 0:
                 self.put_bad()
-            elif number >> 58 == 1:
-                self.put_reset(False)
+            elif number >> 58 < 8:
+                self.put_reset(number >> 58 & 1)
 
     def wrap_each(self, number, few, software):
         """One counter after the other over its wrap, by single events of its own."""
@@ -564,19 +618,17 @@ class Maker:
             if choice < 7:
                 for turn in range(1 + (number & 7)):
                     number >>= 5
-                    self.put_ticks(TICK_COUNTS[number & 15])
+                    self.put_ticks(TICK_COUNTS[number & 15] if number & 0x80 else self.count_to_slow_event(number))
                     if number & 0x30 == 0:
                         self.put_read(TIMESTAMP if number & 0x40 else COUNTER)
             elif choice < 9:
-                self.put_ticks(TICK_COUNTS[number & 31])
+                self.put_ticks(TICK_COUNTS[number & 63])
                 self.put_read(TIMESTAMP)
             elif choice == 9:
-                amount = 1 + (number & 31)
-                out += MOST_TICKS_RECORD * amount
-                self.timestamp = (self.timestamp + amount * MOST_TICKS) % STAMP_WRAP
+                self.put_most_ticks(1 + (number & 31))
             elif choice == 10:
                 # Multiples of 2^40 are up to 256 records of ticks away: not every time.
-                self.cross_stamp(2**40 if number & 3 == 0 else 2**32, number >> 2)
+                self.cross_stamp(2**40 if number & 7 < 3 else 2**32, number >> 3)
             elif choice < 13:
                 self.put_trigger(TRACE + (number & 31), LINES[number >> 5 & 63], number)
                 self.put_read(TIMESTAMP)
@@ -586,8 +638,8 @@ class Maker:
                 self.put_looks(number)
                 if not (self.sampling and self.filter):
                     self.open_up()
-            elif number & 15 == 0:
-                self.put_reset(number & 0x70 == 0)
+            elif number & 3 == 0:
+                self.put_reset(number & 4)
                 self.put_read(TIMESTAMP)
                 self.open_up()
                 self.put_write(ENABLE, number >> 8 | 1)
@@ -598,8 +650,7 @@ class Maker:
         """Ticks to just before the next multiple, then over it in small steps with samples."""
         distance = modulus - self.timestamp % modulus
         amount, rest = divmod(distance, MOST_TICKS)
-        self.out += MOST_TICKS_RECORD * amount
-        self.timestamp = (self.timestamp + amount * MOST_TICKS) % STAMP_WRAP
+        self.put_most_ticks(amount)
         before = number & 3
         if rest >= before:
             self.put_ticks(rest - before)
@@ -615,6 +666,85 @@ class Maker:
         self.put_read(TIMESTAMP)
         if self.held:
             self.put_sends(sum(self.held))
+
+    def slow(self, goal):
+        draw = self.draw
+        out = self.out
+        if self.held:
+            # The shadows free, so that the counters can be read.
+            self.put_sends(sum(self.held))
+        self.start_slow(draw())
+        while len(out) < goal:
+            number = draw()
+            choice = number & 63
+            number >>= 6
+            if choice < 24:
+                self.put_slow_event(number)
+            elif choice < 30:
+                # Over a slow event in single ticks.
+                self.put_ticks(self.period - self.phase - 1)
+                for turn in range(1 + (number & 3)):
+                    self.put_read(COUNTER + (number >> 2 & 15))
+                    self.put_ticks(1)
+                self.put_read(COUNTER + (number >> 2 & 15))
+            elif choice < 34:
+                # To any phase.
+                self.put_ticks(number & 127)
+            elif choice < 36:
+                self.put_ticks(TICK_COUNTS[number & 63])
+            elif choice < 44:
+                left = self.period - self.phase
+                self.put_reset(number & 1)
+                self.start_slow(number >> 1)
+                if number & 0x18 == 0:
+                    # To where a slow event would have fallen without the reset.
+                    self.put_ticks(left)
+                    self.put_read(COUNTER + (number >> 5 & 15))
+                self.put_slow_event(number >> 9)
+            elif choice < 48:
+                # A refused reset changes neither speed nor phase.
+                self.put_bad_reset(draw())
+                self.put_slow_event(number)
+                self.put_read(TIMESTAMP if number >> 20 & 1 else ENABLE)
+            elif choice < 51:
+                # Bits that do nothing: no speed is chosen here.
+                self.put_csr((0x4000, 0x8000, 0xC000, 0xC015)[number & 3])
+                self.put_read(CSR)
+                self.put_slow_event(number >> 2)
+            elif choice < 53:
+                # Other kinds of event, with the clock going on.
+                self.put_write(MUX, number & MUX_NODE)
+                self.put_events(number >> 16)
+                self.put_slow_event(number >> 32)
+                self.put_write(MUX, MUX_SLOW)
+            elif choice < 55:
+                # Counters that come and go, with the clock going on.
+                self.put_write((DISABLE, CLEAR)[number & 1], number >> 1)
+                self.put_slow_event(number >> 32)
+                self.put_write(ENABLE, 0xFFFF)
+            elif choice == 55:
+                # A Resource sample carries the slow counts out.
+                if not (self.sampling and self.filter):
+                    self.open_up()
+                self.put_trigger(RESOURCE + (number & 15), 1 << (number >> 4 & 7), number)
+                self.put_slow_event(number >> 7)
+                if self.held:
+                    self.put_sends(sum(self.held))
+            elif choice < 58:
+                self.put_bad()
+            else:
+                self.put_looks(number)
+
+    def start_slow(self, number):
+        """All counters on the slow clock, all or some of them enabled."""
+        if number & 3:
+            self.put_write(MUX, MUX_SLOW)
+        self.put_write(ENABLE, 0xFFFF if number & 12 else number >> 4)
+
+    def put_slow_event(self, number):
+        """Ticks to just about a slow event, and what a counter shows there."""
+        self.put_ticks(self.count_to_slow_event(number))
+        self.put_read(COUNTER + (number >> 6 & 15))
 
     # ---- modes around addresses and fields ----
 
@@ -674,6 +804,8 @@ class Maker:
                     self.put_any(READ, address, 0, 0)
             self.open_up()
             self.put_sends(self.some_sends(number >> 24))
+            if number >> 60 < 4:
+                self.put_bad()
 
     def mixed(self, goal):
         draw = self.draw
@@ -714,9 +846,9 @@ class Maker:
         out = self.out
         while len(out) < goal:
             number = draw()
-            # Kinds 0 to 7, the reset seldom, and now and then any byte at all.
+            # Kinds 0 to 7, a good reset seldom, and now and then any byte at all.
             kind = number & 7
-            if kind == RESET and number & 0xF8 or kind == 7 and number & 0x18:
+            if kind == RESET and number & 8 or kind == 7 and number & 0x18:
                 kind = number >> 3 & 255 if number >> 11 & 7 == 0 else SEND
             address = ADDRESSES[number >> 14 & 511]
             if address == SOFT_RESET and number >> 23 & 7:
@@ -724,6 +856,8 @@ class Maker:
             lines = LINES[number >> 26 & 63] if number >> 32 & 3 else number >> 34 & 255
             zero = 0 if number >> 42 & 15 else number >> 46 & 255
             data = self.all_sorts_of_data()
+            if kind == RESET:
+                data = data | 2 if number & 0xF0 else number >> 54 & 1
             out += record(kind, address, lines, zero, data)
             if zero == 0:
                 self.guess(kind, address, lines, data)
@@ -742,8 +876,8 @@ class Maker:
     def chosen_modes(self):
         """The seed's mixture: each mode as often as its share says, from rare to frequent."""
         shares = ((self.queue, 4), (self.triggers, 3), (self.sends, 2), (self.resets, 3), (self.counters, 4),
-                  (self.wraps, 3), (self.stamps, 3), (self.registers, 2), (self.sweep, 2), (self.mixed, 4),
-                  (self.near, 2), (self.noise, 1))
+                  (self.wraps, 3), (self.stamps, 3), (self.slow, 3), (self.registers, 2), (self.sweep, 2),
+                  (self.mixed, 4), (self.near, 2), (self.noise, 1))
         number = self.draw()
         modes = []
         for mode, share in shares:
@@ -774,7 +908,7 @@ class Maker:
             out[start + 2] = number & 255
             if kind != READ:
                 out[start + 1] = number >> 8 & 255
-            if kind in (RESET, READ, SEND):
+            if kind in (READ, SEND):
                 out[start + 4:start + 12] = draw().to_bytes(8, "little")
 
     def stretch(self):
@@ -804,9 +938,12 @@ class Maker:
         piece = 4096
         for turn in range(WRAP_TICK_RECORDS // piece):
             yield MOST_TICKS_RECORD * piece
-        self.timestamp = WRAP_TICK_RECORDS * MOST_TICKS
+        self.guess_ticks(WRAP_TICK_RECORDS * MOST_TICKS)
         self.out = bytearray()
         self.cross_stamp(STAMP_WRAP, self.draw())
+        # The slow clock doesn't start again at the wrap.
+        for turn in range(16):
+            self.put_slow_event(self.draw())
         yield bytes(self.out)
 
 

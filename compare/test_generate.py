@@ -39,6 +39,8 @@ def file_of(seed, count, ragged=None):
 WRITABLE = {0, 1, 4, 5, 6, 8, 10, 11, 12, *range(16, 24), *range(32, 48), *range(96, 128)}
 READABLE = {1, 2, 4, 5, 6, 8, 11, *range(16, 24), *range(32, 48)}
 EVENT_KINDS = ("slow clock", "external", "software", "node clock")
+PERIODS = {0: 10, 1: 100}  # Timestamp ticks from one slow event to the next, for each good data of a hardware reset
+SPEEDS = {10: "tenth", 100: "hundredth"}
 
 
 class Follower:
@@ -50,15 +52,27 @@ class Follower:
         self.kinds = collections.Counter()
         self.written = set()
         self.read = set()
+        self.speeds = collections.Counter()  # records followed at each speed
+        self.phases = {10: set(), 100: set()}  # where ticks ended at each speed
+        self.bad_reset_data = collections.Counter()
+        self.fresh()
+
+    def fresh(self):
         self.timestamp = 0
+        self.period = 10
         self.reset()
 
     def reset(self):
         self.sampling = self.write_wait = self.read_wait = False
         self.filter = self.mux = self.enabled = self.phase = 0
         self.counters = [0] * 16
+        self.slow_counted = [0] * 16  # the slow events in each counter
         self.held = []  # words left and whether it is a Resource sample, oldest first
         self.lost_mark = False
+        self.ended = None  # where the last ticks ended, if that was beside a slow event and only reads came since
+
+    def speed(self):
+        return SPEEDS[self.period]
 
     def busy(self):
         return any(resource for _, resource in self.held)
@@ -68,16 +82,36 @@ class Follower:
             left, resource = self.held[0]
             if left < (80 if resource else 16):
                 self.seen["%s reset in the middle of a %s sample" % (name, "Resource" if resource else "Trace")] += 1
+        self.seen["%s reset at the %s" % (name, self.speed())] += 1
+        if self.phase:
+            self.seen["%s reset at the %s between slow events" % (name, self.speed())] += 1
+
+    def hardware_reset(self, data):
+        self.note_reset("hardware")
+        before, now = self.speed(), SPEEDS[PERIODS[data]]
+        self.seen["hardware reset to the " + now] += 1
+        if before != now and self.timestamp:
+            # The clock has run at the speed before.
+            self.seen["change of speed in mid-run, %s to %s" % (before, now)] += 1
+        self.fresh()
+        self.period = PERIODS[data]
+
+    def kind_of_counter(self, index):
+        return (self.mux >> (32 + index) & 1) * 2 + (self.mux >> index & 1)
 
     def count_events(self, wanted, amount, mask=0xFFFF):
         for index in range(16):
-            kind = (self.mux >> (32 + index) & 1) * 2 + (self.mux >> index & 1)
+            kind = self.kind_of_counter(index)
             if kind == wanted and self.enabled & mask & 1 << index:
                 total = self.counters[index] + amount
                 if total >> 32:
                     self.seen["counter wraps, " + EVENT_KINDS[kind]] += 1
                     self.seen["counter %d wraps" % index] += 1
+                    if kind == 0:
+                        self.seen["counter wraps, slow clock at the " + self.speed()] += 1
                 self.counters[index] = total & 0xFFFFFFFF
+                if kind == 0:
+                    self.slow_counted[index] += amount
 
     def trigger(self, address, lines):
         if lines not in (1, 2, 4, 8, 16, 32, 64, 128):
@@ -127,12 +161,16 @@ class Follower:
                     setattr(self, name, False)
                 elif data >> bit & 1:
                     setattr(self, name, True)
+            for bit in (14, 15):
+                if data >> bit & 1:
+                    self.seen["CSR bit %d written at the %s" % (bit, self.speed())] += 1
         elif address == 4:
             self.filter = data & 0xFFFF
         elif address == 8:
             self.mux = data & 0x0000FFFF_0000FFFF
         elif address == 10:
             self.counters = [0 if data >> index & 1 else count for index, count in enumerate(self.counters)]
+            self.slow_counted = [0 if data >> index & 1 else count for index, count in enumerate(self.slow_counted)]
         elif address == 11:
             self.enabled |= data & 0xFFFF
         elif address == 12:
@@ -155,6 +193,11 @@ class Follower:
             if self.busy():
                 return 10 if self.read_wait else 11
             self.seen["counter read with the shadows free"] += 1
+            index = address - 32
+            if self.counters[index] and self.slow_counted[index]:
+                self.seen["counter read shows slow counts at the " + self.speed()] += 1
+            if self.ended and self.enabled >> index & 1 and self.kind_of_counter(index) == 0:
+                self.seen["slow counter read where " + self.ended] += 1
         return 0
 
     def send(self):
@@ -172,8 +215,20 @@ class Follower:
         for width in (32, 40):
             if before >> width != self.timestamp >> width:
                 self.seen["Timestamp passes a multiple of 2^%d" % width] += 1
-        slow, self.phase = divmod(self.phase + count, 10)
+        phase = self.phase
+        slow, self.phase = divmod(phase + count, self.period)
         self.count_events(0, slow)
+        self.phases[self.period].add(self.phase)
+        if slow:
+            self.seen["slow event at the " + self.speed()] += 1
+        if 2 <= slow <= 1000:
+            self.seen["several slow events in one count at the " + self.speed()] += 1
+        if count > 1 and phase:
+            # Steered from between two slow events: single ticks and counts that start on an event are left out.
+            place = {self.period - 1: "one before", 0: "on", 1: "one after"}.get(self.phase)
+            if place:
+                self.ended = "ticks end %s a slow event at the %s" % (place, self.speed())
+                self.seen[self.ended] += 1
 
     def bad(self, kind, zero, data):
         """Why the bench program refuses a whole record with 9, or None."""
@@ -187,29 +242,38 @@ class Follower:
             return "node tick count"
         if kind == 5 and data >> 16:
             return "event mask"
+        if kind == 0 and data not in PERIODS:
+            return "reset data"
         return None
 
     def ignored_bits(self, kind, address, lines, data):
         """Whether a record has bits set in a field that its kind doesn't need."""
         if kind == 1:
             return bool(lines and not 96 <= address < 128 or data & generator.IGNORED_DATA[address])
-        return bool(lines or (kind != 2 and address) or (kind in (0, 2, 6) and data))
+        return bool(lines or (kind != 2 and address) or (kind in (2, 6) and data))
 
     def follow(self, kind, address, lines, zero, data):
         """The reply to one whole record."""
         self.kinds[min(kind, 7)] += 1
+        self.speeds[self.period] += 1
         reason = self.bad(kind, zero, data)
+        if kind != 2:
+            self.ended = None
         if reason:
             self.seen["bad record, " + reason] += 1
+            if reason == "reset data":
+                self.bad_reset_data[data] += 1
+                if self.phase:
+                    self.seen["refused hardware reset at the %s between slow events" % self.speed()] += 1
             reply = 9
         else:
             if self.ignored_bits(kind, address, lines, data):
                 self.seen["bits that must be ignored"] += 1
+                if kind == 0:
+                    self.seen["hardware reset to the %s with bits that must be ignored" % SPEEDS[PERIODS[data]]] += 1
             reply = 0
             if kind == 0:
-                self.note_reset("hardware")
-                self.reset()
-                self.timestamp = 0
+                self.hardware_reset(data)
             elif kind == 1:
                 reply = self.write(address, lines, data)
             elif kind == 2:
@@ -244,10 +308,10 @@ check([draw(), draw()] == [0xE220A8397B1DCDAF, 0x6E789E6AA1B965F4], "the first n
 
 # A change of the generator changes these; nothing else does.
 DIGESTS = {
-    1: "072750c2958464d494f8d281bd7d0c9887a04676f2e91d0947fa420498f63810",
-    2: "87f1491d58e707e5fb502556edf27353c36ba330086b7712ea0fc8ac9bcf9d04",
-    15: "999cbe4d660bff3dd3caa985f6bad81acf3af8620e20accf90c8dee821386f46",
-    2**64 - 1: "ce2862b85008344423f17cdafcb617354a18a11eeec3ebb67ab3176ae67eb4d1",
+    1: "4e98a05954b8a02b01ab8b2e5a26a73027d3839d1be6ddfadff0cabe2808f9c9",
+    2: "3680208f1114fe929f23f09a9bfc01bd851682bb99553e1cc4d0b483d1d60b90",
+    15: "9881c1aa6d34e075819c439ecbf430b16c9868f1103fc1636c74f8db20d80405",
+    2**64 - 1: "b1c29c03bd51bdc86c517e31782e5116996b1d57780c7ebe2bf79df96bd6e843",
 }
 for seed, digest in DIGESTS.items():
     found = hashlib.sha256(file_of(seed, 50_000)).hexdigest()
@@ -295,12 +359,11 @@ replies_by_seed = []
 for seed in range(SEEDS):
     before = follower.replies.copy()
     # Each file meets a fresh chip.
-    follower.reset()
-    follower.timestamp = 0
+    follower.fresh()
     maker = generator.Maker(seed)
     followed = 0
     while followed < COUNT:
-        # The maker's guess of the queue and settings holds after each stretch.
+        # The maker's guess of the queue, settings and slow clock holds after each stretch.
         for fields in records_of(maker.stretch()):
             follower.follow(*fields)
             followed += 1
@@ -308,12 +371,15 @@ for seed in range(SEEDS):
               == (follower.sampling, follower.filter, [left for left, _ in follower.held],
                   [resource for _, resource in follower.held], follower.busy(), follower.timestamp),
               "the guess after a stretch of seed %d" % seed)
+        check((maker.period, maker.phase) == (follower.period, follower.phase),
+              "the guess of the slow clock after a stretch of seed %d" % seed)
     replies_by_seed.append(follower.replies - before)
 
 KIND_NAMES = ["reset", "write", "read", "Timestamp ticks", "node ticks", "events", "send", "above 6"]
 print("records of %d seeds: %d" % (SEEDS, sum(follower.kinds.values())))
 print("kinds: " + share_text(follower.kinds, KIND_NAMES))
 print("replies: " + share_text(follower.replies, {reply: "%d:" % reply for reply in range(16)}))
+print("speeds of the slow clock: " + share_text(follower.speeds, SPEEDS))
 print("addresses: %d written, %d read" % (len(follower.written), len(follower.read)))
 for name in sorted(follower.seen):
     print("  %7d  %s" % (follower.seen[name], name))
@@ -324,6 +390,11 @@ check(len(follower.read) == 256, "all addresses read")
 for reply in range(12):
     check(follower.replies[reply] > 300, "reply %d comes often enough" % reply)
 check(max(follower.replies) == 11, "no reply but 0 to 11")
+for period, speed in SPEEDS.items():
+    check(follower.speeds[period] > SEEDS * COUNT // 3, "a third of the records or more at the " + speed)
+    check(len(follower.phases[period]) == period, "ticks end at each place between slow events at the " + speed)
+for data in (2, 3, 256, 257, 2**32, 2**32 + 1, 2**63, 2**64 - 1):
+    check(follower.bad_reset_data[data] >= 20, "often enough: hardware reset with data %d" % data)
 for seed, replies in enumerate(replies_by_seed):
     check(len(replies) == 12, "seed %d meets all replies" % seed)
     check(replies[9] < COUNT // 3, "seed %d is not mostly bad records" % seed)
@@ -343,10 +414,42 @@ OCCASIONS = [
     "CSR bits 0 and 1 together", "CSR bits 2 and 3 together", "CSR bits 4 and 5 together",
     "bad record, kind", "bad record, fourth byte", "bad record, Timestamp tick count",
     "bad record, node tick count", "bad record, event mask", "bits that must be ignored",
+    "bad record, reset data",
+    "change of speed in mid-run, tenth to hundredth", "change of speed in mid-run, hundredth to tenth",
 ]
+for speed in SPEEDS.values():
+    OCCASIONS += [
+        "hardware reset to the " + speed,
+        "hardware reset to the %s with bits that must be ignored" % speed,
+        "software reset at the " + speed,
+        "software reset at the %s between slow events" % speed,
+        "hardware reset at the %s between slow events" % speed,
+        "refused hardware reset at the %s between slow events" % speed,
+        "slow event at the " + speed,
+        "several slow events in one count at the " + speed,
+        "counter read shows slow counts at the " + speed,
+        "counter wraps, slow clock at the " + speed,
+        "CSR bit 14 written at the " + speed,
+        "CSR bit 15 written at the " + speed,
+    ]
+    for place in ("one before", "on", "one after"):
+        ended = "ticks end %s a slow event at the %s" % (place, speed)
+        OCCASIONS += [ended, "slow counter read where " + ended]
 OCCASIONS += ["counter %d wraps" % index for index in range(16)]
 for occasion in OCCASIONS:
     check(follower.seen[occasion] >= 20, "often enough: " + occasion)
+
+# Each mode with hardware resets changes the speed in both directions.
+for name in ("queue", "resets", "counters", "wraps", "stamps", "slow", "mixed", "near"):
+    follower = Follower()
+    maker = generator.Maker(5)
+    getattr(maker, name)(12 * 20_000)
+    for fields in records_of(bytes(maker.out)):
+        follower.follow(*fields)
+    changes = [follower.seen["change of speed in mid-run, " + change]
+               for change in ("tenth to hundredth", "hundredth to tenth")]
+    print("changes of speed in 20000 records of %s: %d and %d" % (name, *changes))
+    check(min(changes) >= 2, "the mode %s changes the speed" % name)
 
 # ---- the wrap of the Timestamp at 2^56, in a very long file ----
 
@@ -362,11 +465,13 @@ check(length == 12 * generator.WRAP_COUNT, "a very long file has its length")
 follower = Follower()
 wrapped = 0
 stamps = []  # the Timestamps of the samples taken
+places = []  # where counters are read, counted from one tick before a slow event
 after_run = False
 for fields in records_of(rest):
     if fields[0] == 3 and not after_run:
         # The long run of ticks stood just before the first other ticks.
         follower.timestamp = ticks
+        follower.phase = ticks % follower.period
         after_run = True
     before = follower.timestamp
     reply = follower.follow(*fields)
@@ -374,9 +479,12 @@ for fields in records_of(rest):
         wrapped += 1
     if fields[0] == 1 and 96 <= fields[1] < 128 and reply == 0:
         stamps.append(follower.timestamp)
+    if fields[0] == 2 and 32 <= fields[1] < 48 and wrapped:
+        places.append((follower.phase + 1) % follower.period)
 check(ticks == 2**24 * (2**32 - 1), "the very long file has its run of ticks")
 check(wrapped == 1, "the very long file takes the Timestamp over 2^56 once")
 check(stamps[0] >= 2**56 - 4 and stamps[1] < 8, "samples are taken just before and just after the wrap")
+check(set(places[:16]) == {0, 1, 2}, "counters are read one before, on and one after a slow event after the wrap")
 short = file_of(3, 30_000)
 check(generator.MOST_TICKS_RECORD * 400 not in short, "a file of usual length has no such run")
 

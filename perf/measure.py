@@ -33,6 +33,10 @@ def record(kind, address=0, lines=0, data=0):
     return struct.pack("<BBBBQ", kind, address, lines, 0, data)
 
 
+# Odd counters on the node clock, even ones on external events, all enabled.
+COUNTING = record(WRITE, 8, 0, 0x0000AAAA0000FFFF) + record(WRITE, 11, 0, 0xFFFF)
+
+
 def settings():
     """Sampling on, every level passes, half of the counters on each pair of kinds, all enabled, eight sources."""
     yield record(WRITE, 1, 0, 1)
@@ -86,6 +90,7 @@ def mixed(chance):
 def kinds():
     """For each kind of operation its name, what goes before it, and a function that makes its records."""
     held = record(WRITE, 96, 1) * 8
+    hundredth = record(RESET, 0, 0, 1) + COUNTING
     some = lambda chance: chance.getrandbits(48)
     return (
         ("hardware reset", b"", lambda chance: record(RESET)),
@@ -107,6 +112,7 @@ def kinds():
         ("counter read", b"", lambda chance: record(READ, 32)),
         ("read of an address with nothing", b"", lambda chance: record(READ, 3)),
         ("Timestamp ticks", b"", lambda chance: record(TICKS, 0, 0, chance.randrange(2000))),
+        ("Timestamp ticks at a hundredth", hundredth, lambda chance: record(TICKS, 0, 0, chance.randrange(2000))),
         ("node ticks", b"", lambda chance: record(NODES, 0, 0, chance.randrange(2000))),
         ("external events", b"", lambda chance: record(EVENTS, 0, 0, chance.getrandbits(16))),
     )
@@ -119,7 +125,7 @@ def write_kind(path, before, make):
     while len(body) < KIND_RECORDS * 12:
         body += make(chance)
     with open(path, "wb") as file:
-        file.write(record(WRITE, 1, 0, 9) + record(WRITE, 4, 0, 0xFFFF) + record(WRITE, 8, 0, 0x0000AAAA0000FFFF) + record(WRITE, 11, 0, 0xFFFF))
+        file.write(record(WRITE, 1, 0, 9) + record(WRITE, 4, 0, 0xFFFF) + COUNTING)
         file.write(before + body[: KIND_RECORDS * 12])
 
 

@@ -303,6 +303,15 @@ VERSIONS = {
                 ('let xs = a .t2 in', 'let xs = reverse (a .t2) in'), ('length xs ≡ 16 = ', 'length xs ≡ 16 = length-reverse (a .t2) ∙ '), ('(drop (l .i) (a .t2))', '(drop (l .i) (reverse (a .t2)))'),
                 ('.put-number .ensures in', '.put-number .ensures ∙ ap (λ (x : ℕ). sets (l .out) p (plain (lowBytes 4 x))) (sym (reverse-at (a .t2) (15 - l .i) (l .i) (omega arith))) in')],
         }), [], [('samples', 'in-counter')]),
+    'hundredth_is_a_99th': (
+        "document 02's Wish 2: at the hundredth a slow event falls on every 99th tick, and the bound of 15 goes with it", [
+            ('crates/counters/src/switches.rt', 'if self.hundredth { 100 } else { 10 }', 'if self.hundredth { 99 } else { 10 }'),
+            ('crates/counters/src/switches.rt', '(ticks / 100) as u32', '(ticks / 99) as u32'),
+            ('crates/counters/src/switches.rt', '(ticks % 100) as u8', '(ticks % 99) as u8'),
+            ('crates/counters/specs/Due.antt', 'divisorOf hundredth = cond hundredth 100 10', 'divisorOf hundredth = cond hundredth 99 10'),
+            ('crates/chip/specs/Rows.antt', 'c .switches .phase < 100', 'c .switches .phase < 99'),
+            ('crates/chip/proofs/RoomLaws.antt', 'c .switches .phase < 100', 'c .switches .phase < 99'),
+        ], ['counters', 'chip', 'marked'], [('history', 'slow-same')]),
 }
 
 

@@ -11,7 +11,7 @@ same. ANSWERS is what the bench program wrote for the records of TEXT.
 The text has one operation to a line. `#` starts a comment that runs to the end
 of the line, and blank lines are ignored. Capital letters count as small ones.
 
-    reset                            hardware reset
+    reset [SPEED]                    hardware reset; SPEED left out is tenth
     write ADDRESS [DATA] [LINES]     write; DATA left out is 0
     read ADDRESS                     read
     trigger ADDRESS [DATA] LINES     write to an address from 96 to 127
@@ -20,6 +20,9 @@ of the line, and blank lines are ignored. Capital letters count as small ones.
     events MASK                      external events, 0 to 65535
     send [TIMES]                     send one word, TIMES times, 1 to 1000000
     raw BYTE ...                     the 12 bytes of a record as they are
+
+SPEED is the slow clock's, until the next hardware reset: `tenth` or `hundredth`
+of the Timestamp clock.
 
 LINES is `line N [N ...]`, each N a line from 0 to 7, or `lines MASK` with the
 whole byte: `line 0` and `lines 1` are the same, and so are `line 0 2` and
@@ -36,8 +39,9 @@ ADDRESS is a number from 0 to 255 or one of these names:
     counter0..counter15 32..47    trace0..trace15 96..111
     resource0..resource15 112..127
 
-Other spellings: `hardreset` for reset, `softreset` alone for `write softreset`,
-`tick` for ticks, `nodes` for node, `event` for events, `muxsel` for mux.
+Other spellings: `reset tenth` for `reset` alone, `hardreset` for reset, before
+a SPEED too, `softreset` alone for `write softreset`, `tick` for ticks, `nodes`
+for node, `event` for events, `muxsel` for mux.
 
 Bad text gives a message for each bad line on standard error, exit status 1 and
 nothing on standard output.
@@ -53,6 +57,9 @@ RECORD = struct.Struct("<BBBBQ")
 RECORD_LENGTH = RECORD.size
 
 KIND_RESET, KIND_WRITE, KIND_READ, KIND_TICKS, KIND_NODE, KIND_EVENTS, KIND_SEND = range(7)
+
+# The data of a hardware reset for each speed of the slow clock.
+DATA_OF_SPEED = {"tenth": 0, "hundredth": 1}
 
 MOST_DATA = 2**64 - 1
 MOST_TICKS = 2**32 - 1
@@ -209,8 +216,18 @@ def take_lines(words):
     return mask
 
 
+def take_speed(words):
+    """The data for a speed of the slow clock, or for the tenth where the line ends."""
+    word = words.take()
+    if word is None:
+        return DATA_OF_SPEED["tenth"]
+    if word not in DATA_OF_SPEED:
+        raise BadLine("'tenth', 'hundredth' or " + END_OF_LINE, words.found())
+    return DATA_OF_SPEED[word]
+
+
 def parse_reset(words):
-    return RECORD.pack(KIND_RESET, 0, 0, 0, 0)
+    return RECORD.pack(KIND_RESET, 0, 0, 0, take_speed(words))
 
 
 def parse_softreset(words):
@@ -366,8 +383,10 @@ def record_text(record):
             if kind == KIND_READ and data == 0:
                 return "read " + NAME_OF_ADDRESS.get(address, str(address))
             if address == 0:
-                if kind == KIND_RESET and data == 0:
+                if kind == KIND_RESET and data == DATA_OF_SPEED["tenth"]:
                     return "reset"
+                if kind == KIND_RESET and data == DATA_OF_SPEED["hundredth"]:
+                    return "reset hundredth"
                 if kind == KIND_TICKS and data <= MOST_TICKS:
                     return "ticks %d" % data
                 if kind == KIND_NODE and data <= MOST_TICKS:
