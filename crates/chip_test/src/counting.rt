@@ -52,14 +52,9 @@ pub fn slow_clock() {
     slow_events(steps::hardware_reset(Chip::fresh(), true), 99);
 }
 
-// Ticks that are one too few for a slow event, and one more; then many, four, and one more.
+// The first slow event; then many, four ticks, and one more.
 fn slow_events(fresh: Chip, few: u32) {
-    let mut chip = fresh;
-    chip = steps::set(chip, 11, 1);
-    chip = steps::timestamp_ticks(chip, few);
-    chip = steps::read(chip, 32);
-    chip = steps::timestamp_ticks(chip, 1);
-    chip = steps::read(chip, 32);
+    let mut chip = first_slow_event(fresh, few);
     chip = steps::timestamp_ticks(chip, 4294967295);
     chip = steps::read(chip, 32);
     chip = steps::timestamp_ticks(chip, 4);
@@ -68,6 +63,15 @@ fn slow_events(fresh: Chip, few: u32) {
     chip = steps::read(chip, 32);
     chip = steps::timestamp_ticks(chip, 0);
     steps::read(chip, 2);
+}
+
+// Counter 0 enabled, ticks that are one too few for a slow event, and one more.
+pub fn first_slow_event(reset: Chip, few: u32) -> Chip {
+    let mut chip = steps::set(reset, 11, 1);
+    chip = steps::timestamp_ticks(chip, few);
+    chip = steps::read(chip, 32);
+    chip = steps::timestamp_ticks(chip, 1);
+    steps::read(chip, 32)
 }
 
 pub fn phase_unseen() {

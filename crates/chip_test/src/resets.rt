@@ -1,4 +1,5 @@
 // Resets, also in the middle of a sample.
+use super::counting::first_slow_event;
 use super::given;
 use super::steps;
 use chip::chip::Chip;
@@ -36,11 +37,7 @@ pub fn phase_after_reset() {
     let mut chip = Chip::fresh();
     chip = steps::timestamp_ticks(chip, 7);
     chip = steps::set(chip, 0, 0);
-    chip = steps::set(chip, 11, 1);
-    chip = steps::timestamp_ticks(chip, 9);
-    chip = steps::read(chip, 32);
-    chip = steps::timestamp_ticks(chip, 1);
-    chip = steps::read(chip, 32);
+    chip = first_slow_event(chip, 9);
     steps::read(chip, 2);
 }
 
@@ -53,8 +50,8 @@ pub fn hardware_reset() {
     steps::hardware_reset(chip, false);
 }
 
-// Document 02, Wish 2: each hardware reset chooses anew. A software reset keeps the choice, whatever its data, and clears the phase: with it
-// the ticks before would make an event.
+// Document 02, Wish 2: each hardware reset chooses anew. A software reset keeps the choice, whatever its data, and clears the phase: were that
+// kept, the 99 and the 9 ticks behind it would make an event.
 pub fn speeds() {
     print::heading(b"A hardware reset chooses the slow clock's speed, a software reset keeps it");
     let mut chip = used();
@@ -63,7 +60,7 @@ pub fn speeds() {
     chip = steps::timestamp_ticks(chip, 95);
     chip = steps::set(chip, 0, 0);
     steps::is_fresh(chip, 95, true);
-    chip = short_of_an_event(chip, 99);
+    chip = first_slow_event(chip, 99);
     chip = steps::hardware_reset(chip, true);
     steps::is_fresh(chip, 0, true);
     chip = steps::hardware_reset(chip, false);
@@ -71,14 +68,5 @@ pub fn speeds() {
     chip = steps::timestamp_ticks(chip, 5);
     chip = steps::set(chip, 0, 1);
     steps::is_fresh(chip, 5, false);
-    short_of_an_event(chip, 9);
-}
-
-// Ticks that are one too few for a slow event, and one more.
-fn short_of_an_event(before: Chip, few: u32) -> Chip {
-    let mut chip = steps::set(before, 11, 1);
-    chip = steps::timestamp_ticks(chip, few);
-    chip = steps::read(chip, 32);
-    chip = steps::timestamp_ticks(chip, 1);
-    steps::read(chip, 32)
+    first_slow_event(chip, 9);
 }
