@@ -7,13 +7,13 @@ use native.Mathlib.Omega.{arith}
 use mathlib.Core.Path.{_≡_, refl, sym, ap, _∙_, subst}
 use mathlib.Core.Bool.{Bool, true, false, cond, not, _&&_, and-false}
 use lib.Dec.{eqb}
-use lib.ListN.{getD, length}
+use lib.ListN.{getD, length, set}
 use borrow.Author.Tests.{eqb-false}
 use Rattle.samples.specs.Layout.{counterWidths, widths}
 use Rattle.samples.specs.declared.edition.Edition.the-variants.{First}
 use Rattle.samples.specs.Write.{within}
 use Rattle.counters.specs.Bank.{bit, cleared, copied, counting, grown}
-use Rattle.counters.specs.Due.{due, signalled, slowEvents, ticked}
+use Rattle.counters.specs.Due.{disabling, due, enabling, fired, selecting, signalled, slowEvents, ticked}
 use Rattle.counters.specs.declared.bank.Bank.{Bank}
 use Rattle.counters.specs.declared.switches.Kind.the-variants.{Slow, External, Software, Node}
 use Rattle.counters.proofs.TickLaws.{divisor-some}
@@ -25,7 +25,7 @@ use Rattle.control.specs.Control.{waited}
 use Rattle.control.specs.Fate.{Fate, isOff, isFiltered, isLost, isTold, isTaken}
 use Rattle.control.specs.declared.control.Control.{Control}
 use Rattle.control.specs.declared.reply.Reply.the-variants.{Lines, NoWord, Wait, Busy, Outside}
-use Rattle.chip.specs.Chip.{afterTicks, done, externalEvents, fateOf, fresh, inside, lineOf, nodeTicks, oneLine, read, readAt, readCounter, replied, sampleNow, send, sendInto, sendNow, takeSample, timestampTicks, trigger, triggerBy, withBank, withChoice, withControl, withQueue, withStamp, write, writeAt}
+use Rattle.chip.specs.Chip.{afterTicks, done, externalEvents, fateOf, fresh, inside, lineOf, nodeTicks, oneLine, read, readAt, readCounter, replied, sampleNow, send, sendInto, sendNow, softReset, takeSample, timestampTicks, trigger, triggerBy, withBank, withChoice, withControl, withQueue, withSources, withStamp, withSwitches, write, writeAt}
 use Rattle.chip.specs.Operation.{Operation, opReset, opWrite, opRead, opTicks, opNodes, opEvents, opSend, opFill, step}
 use Rattle.chip.specs.Place.{placeOf}
 use Rattle.chip.specs.Repeat.{repeat}
@@ -101,26 +101,33 @@ read-keeps P (Counter i) c h k s = go (busy (c .queue)) (c .control .readwait)
     go false w = s
 read-keeps P (Trigger r level) c h k s = h
 
+-- a write keeps what each record keeps that a write can leave: the same (h), another control (k), MUX SEL (m), enabled set (e, d), cleared counters
+-- (z), a software event (f), a Source Address (s), a software reset's (n), a sample more (t)
+pub write-keeps : (P : Chip → Type 0) (p : Place) (bits lines : ℕ) (c : Chip) → P c → ((k : Control) → P (withControl k c)) → P (withSwitches (selecting bits (c .switches)) c) → P (withSwitches (enabling bits (c .switches)) c) → P (withSwitches (disabling bits (c .switches)) c) → P (withBank (cleared (bits % 2 ^ 16) (c .bank)) c) → ((i : ℕ) → P (withBank (fired i (c .switches) (c .bank)) c)) → ((i : ℕ) → P (withSources (set (c .sources) i (bits % 2 ^ 32)) c)) → P (softReset c) → ((r : Bool) → P (takeSample r (lineOf lines) bits c)) → P (writeAt p bits lines c .chip)
+unfolding writeAt trigger
+write-keeps P Beyond bits lines c h k m e d z f s n t = h
+write-keeps P Nowhere bits lines c h k m e d z f s n t = h
+write-keeps P Reset bits lines c h k m e d z f s n t = n
+write-keeps P Csr bits lines c h k m e d z f s n t = k _
+write-keeps P Timestamp bits lines c h k m e d z f s n t = h
+write-keeps P Filter bits lines c h k m e d z f s n t = k _
+write-keeps P Waits bits lines c h k m e d z f s n t = k _
+write-keeps P Overruns bits lines c h k m e d z f s n t = k _
+write-keeps P Mux bits lines c h k m e d z f s n t = m
+write-keeps P Clear bits lines c h k m e d z f s n t = z
+write-keeps P Enable bits lines c h k m e d z f s n t = e
+write-keeps P Disable bits lines c h k m e d z f s n t = d
+write-keeps P (Source i) bits lines c h k m e d z f s n t = s i
+write-keeps P (Counter i) bits lines c h k m e d z f s n t = f i
+write-keeps P (Trigger r level) bits lines c h k m e d z f s n t =
+    trigger-keeps P r (oneLine lines) (fateOf r level c) (lineOf lines) bits c h k (t r)
+
 -- the bounds
 write-inside : (p : Place) (bits lines : ℕ) (c : Chip) → inside c ≡ true → inside (writeAt p bits lines c .chip) ≡ true
-unfolding writeAt trigger
-write-inside Beyond bits lines c h = h
-write-inside Nowhere bits lines c h = h
-write-inside Reset bits lines c h = ap inside (reset-record c) ∙ inside-by (withStamp (c .stamp) (withChoice (c .switches .hundredth) fresh)) refl (divisor-some (c .switches .hundredth)) (inside-stamp c h)
-write-inside Csr bits lines c h = h
-write-inside Timestamp bits lines c h = h
-write-inside Filter bits lines c h = h
-write-inside Waits bits lines c h = h
-write-inside Overruns bits lines c h = h
-write-inside Mux bits lines c h = h
-write-inside Clear bits lines c h = h
-write-inside Enable bits lines c h = h
-write-inside Disable bits lines c h = h
-write-inside (Source i) bits lines c h = h
-write-inside (Counter i) bits lines c h = h
-write-inside (Trigger r level) bits lines c h =
-    trigger-keeps (λ d. inside d ≡ true) r (oneLine lines) (fateOf r level c) (lineOf lines) bits c h (λ k. h)
-    (take-inside r (lineOf lines) bits c h)
+write-inside p bits lines c h =
+    write-keeps (λ d. inside d ≡ true) p bits lines c h (λ k. h) h h h h (λ i. h) (λ i. h)
+    (ap inside (reset-record c) ∙ inside-by (withStamp (c .stamp) (withChoice (c .switches .hundredth) fresh)) refl (divisor-some (c .switches .hundredth)) (inside-stamp c h))
+    (λ r. take-inside r (lineOf lines) bits c h)
 
 pub keeps-inside : (op : Operation) (c : Chip) → inside c ≡ true → inside (step op c .chip) ≡ true
 unfolding write read timestampTicks nodeTicks externalEvents send sendInto sendMany
@@ -182,32 +189,20 @@ take-shaped false line bits c s =
     }
 
 write-shaped : (p : Place) (bits lines : ℕ) (c : Chip) → Shaped c → Shaped (writeAt p bits lines c .chip)
-unfolding writeAt trigger
-write-shaped Beyond bits lines c s = s
-write-shaped Nowhere bits lines c s = s
-write-shaped Reset bits lines c s = subst Shaped (sym (reset-record c)) fresh-shaped
-write-shaped Csr bits lines c s = s
-write-shaped Timestamp bits lines c s = s
-write-shaped Filter bits lines c s = s
-write-shaped Waits bits lines c s = s
-write-shaped Overruns bits lines c s = s
-write-shaped Mux bits lines c s = s
-write-shaped Clear bits lines c s =
-    shaped-bank c (cleared (bits % 2 ^ 16) (c .bank)) s
+write-shaped p bits lines c s =
+    write-keeps Shaped p bits lines c s (λ k. s) s s s
+    (shaped-bank c (cleared (bits % 2 ^ 16) (c .bank)) s
     (each-within 4 16 (λ i v. cond (bit (bits % 2 ^ 16) i) 0 v) 0 (c .bank .values) (λ j v h. clear-below (bit (bits % 2 ^ 16) j) v h) (s .values))
-    (s .shadows)
-write-shaped Enable bits lines c s = s
-write-shaped Disable bits lines c s = s
-write-shaped (Source i) bits lines c s =
-    record {
+    (s .shadows))
+    (λ i. counting-shaped (λ j. eqb j i && due Software (c .switches) j) 1 c s)
+    (λ i. record {
       places = s .places;
       sources = within-set 4 8 (c .sources) i (bits % 2 ^ 32) (s .sources) (omega arith);
       values = s .values;
       shadows = s .shadows;
-    }
-write-shaped (Counter i) bits lines c s = counting-shaped (λ j. eqb j i && due Software (c .switches) j) 1 c s
-write-shaped (Trigger r level) bits lines c s =
-    trigger-keeps Shaped r (oneLine lines) (fateOf r level c) (lineOf lines) bits c s (λ k. s) (take-shaped r (lineOf lines) bits c s)
+    })
+    (subst Shaped (sym (reset-record c)) fresh-shaped)
+    (λ r. take-shaped r (lineOf lines) bits c s)
 
 pub keeps-shaped : (op : Operation) (c : Chip) → Shaped c → Shaped (step op c .chip)
 unfolding write read timestampTicks nodeTicks externalEvents send sendInto sendMany

@@ -62,6 +62,9 @@ inside-bounded c = (to, back)
     size : (r : Bool) → leb 8 (firstHeader c % 16) ≡ r → firstCount (widths First) q ≡ sampleLength (widths First) r
     size r e = ap (sampleLength (widths First)) (resource-number (firstHeader c) ∙ e)
 
+    bounded : inside c ≡ true → (b : Bool) → c .switches .hundredth ≡ b → c .switches .phase < divisorOf b
+    bounded h b e = subst (λ (x : Bool). c .switches .phase < divisorOf x) e (inside-phase c h)
+
     to : inside c ≡ true → WithinBounds c
     to h =
         let b = bounds (widths First) q (inside-queue c h) in
@@ -70,8 +73,8 @@ inside-bounded c = (to, back)
           none = b .none;
           trace = λ some low. omega (arith, b .some (λ z. omega arith), size false (lt-leb 8 (firstHeader c % 16) low));
           resource = λ some high. omega (arith, b .some (λ z. omega arith), size true (le-leb 8 (firstHeader c % 16) high));
-          tenth = λ e. subst (λ (b : Bool). c .switches .phase < divisorOf b) e (inside-phase c h);
-          hundredth = λ e. subst (λ (b : Bool). c .switches .phase < divisorOf b) e (inside-phase c h);
+          tenth = bounded h false;
+          hundredth = bounded h true;
           stamp = inside-stamp c h;
         }
 

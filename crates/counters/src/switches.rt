@@ -111,6 +111,7 @@ impl Switches {
         (ticks / 10) as u32
     }
 
+    // The slow clock's phase after them, likewise.
     pub fn ticking(mut self, count: u32) -> Switches
         ensures { λ r. ⌜ r ≡ ticking count self ⌝ }
     {

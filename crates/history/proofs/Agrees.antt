@@ -37,10 +37,14 @@ controlOf l =
       lost = l .errors .mark;
     }
 
+-- three registers, and the slow clock as the ledger has it
+abbrev pub switchesWith : ℕ → ℕ → ℕ → Ledger → Switches
+switchesWith enabled low high l =
+    record { enabled = enabled; low = low; high = high; phase = l .ticks % divisorOf (l .hundredth); hundredth = l .hundredth }
+
 -- bit i of each register is counter i's
 abbrev pub switchesOf : Ledger → Switches
-switchesOf l =
-    record { enabled = packed (λ k. k .on) (l .counters); low = packed (λ k. k .low) (l .counters); high = packed (λ k. k .high) (l .counters); phase = l .ticks % divisorOf (l .hundredth); hundredth = l .hundredth }
+switchesOf l = switchesWith (packed (λ k. k .on) (l .counters)) (packed (λ k. k .low) (l .counters)) (packed (λ k. k .high) (l .counters)) l
 
 -- the record that a ledger leaves, with a queue and shadows
 abbrev pub chipFor : Ledger → Queue → List ℕ → Chip

@@ -35,7 +35,7 @@ use Rattle.chip.specs.declared.place.Place.the-variants.{Counter as Place·Coun
 use Rattle.history.specs.Ledger.{Counter, Entry, Ledger, byRange, cleared, configured, counted, counterRead, csrIn, each, eachFrom, enabled, muxOf, happened, held, isSet, left, noCounter, packed, readIn, readLow, resetAt, selected, sentMore, slowIn, tells, entryOf, turned, vacant, waitedOne, withErrors, withSettings, withStream, withTicks, written, writtenLow}
 use Rattle.history.specs.Stream.{anyHeld, isFull, totalOf, wordsOfAll}
 use Rattle.history.proofs.Addresses.{by-place, range-beyond, range-counter, range-source, range-trigger, range-vacant}
-use Rattle.history.proofs.Agrees.{Agrees, Good, Kept, chipFor, controlOf, kept-guarded, switchesOf}
+use Rattle.history.proofs.Agrees.{Agrees, Good, Kept, chipFor, controlOf, kept-guarded, switchesOf, switchesWith}
 use Rattle.history.proofs.CountLaws.{counted-value, each-length, each-same, packed-bit, packed-each, packed-lt, packed-same, selects-number, slow-same, under, value-at, valueOf, values-each}
 use Rattle.history.proofs.HeldLaws.{Sixteen}
 use Rattle.history.proofs.HoldsLaws.{Holds, holds-advanced, holds-busy, holds-copied, holds-empty, holds-full, holds-none, holds-some, next-is, many, many-count}
@@ -150,16 +150,15 @@ module _ (l : Ledger) (q : Queue) (sh : List ℕ) (g : Good l q sh) where
   few p = subst (λ (n : ℕ). packed p (l .counters) < 2 ^ n) (g .counters) (packed-lt p (l .counters))
 
   -- 11 and 12: the counters of the set bits become b
-  switched-kept : (b : Bool) (bits x : ℕ) → x < 2 ^ 16 → ((j : ℕ) → j < 16 → bit x j ≡ cond (isSet bits j) b (bit (packed (λ k. k .on) (l .counters)) j)) → Kept (tells 0 0 (each (enabled b bits) l)) (done 0 (withCounted (map valueOf (l .counters)) (record { enabled = x; low = packed (λ k. k .low) (l .counters); high = packed (λ k. k .high) (l .counters); phase = l .ticks % divisorOf (l .hundredth); hundredth = l .hundredth })))
+  switched-kept : (b : Bool) (bits x : ℕ) → x < 2 ^ 16 → ((j : ℕ) → j < 16 → bit x j ≡ cond (isSet bits j) b (bit (packed (λ k. k .on) (l .counters)) j)) → Kept (tells 0 0 (each (enabled b bits) l)) (done 0 (withCounted (map valueOf (l .counters)) (switchesWith x (packed (λ k. k .low) (l .counters)) (packed (λ k. k .high) (l .counters)) l)))
   switched-kept b bits x h e =
       each-kept f _ _ (sym (each-same valueOf 0 f (l .counters) (λ j k. under valueOf (isSet bits j) (next k) k refl)))
-      (λ i. record {
-        enabled = register-of (λ k. k .on) f x h (λ j p. e j p ∙ ap (cond (isSet bits j) b) (bit-of (λ k. k .on) j p) ∙ on (isSet bits j) (getD (l .counters) j noCounter)) i;
-        low = packed-same (λ k. k .low) 0 f (l .counters) (λ j k. under (λ m. m .low) (isSet bits j) (next k) k refl) i;
-        high = packed-same (λ k. k .high) 0 f (l .counters) (λ j k. under (λ m. m .high) (isSet bits j) (next k) k refl) i;
-        phase = l .ticks % divisorOf (l .hundredth);
-        hundredth = l .hundredth;
-      })
+      (λ i.
+      switchesWith
+      (register-of (λ k. k .on) f x h (λ j p. e j p ∙ ap (cond (isSet bits j) b) (bit-of (λ k. k .on) j p) ∙ on (isSet bits j) (getD (l .counters) j noCounter)) i)
+      (packed-same (λ k. k .low) 0 f (l .counters) (λ j k. under (λ m. m .low) (isSet bits j) (next k) k refl) i)
+      (packed-same (λ k. k .high) 0 f (l .counters) (λ j k. under (λ m. m .high) (isSet bits j) (next k) k refl) i)
+      l)
     where
       f : ℕ → Counter → Counter
       f = enabled b bits
@@ -197,25 +196,23 @@ module _ (l : Ledger) (q : Queue) (sh : List ℕ) (g : Good l q sh) where
   select-kept : (bits : ℕ) → Kept (tells 0 0 (each (selected bits) l)) (done 0 (withCounted (map valueOf (l .counters)) (selecting bits (switchesOf l))))
   select-kept bits =
       each-kept (selected bits) _ _ (sym (each-same valueOf 0 (selected bits) (l .counters) (λ j k. refl)))
-      (λ i. record {
-        enabled = packed-same (λ k. k .on) 0 (selected bits) (l .counters) (λ j k. refl) i;
-        low = register-of (λ k. k .low) (selected bits) _ (mod-lt bits (pow-pos 16)) (λ j h. low-bit bits (switchesOf l) j h) i;
-        high = register-of (λ k. k .high) (selected bits) _ (mod-lt (bits / 2 ^ 32) (pow-pos 16)) (λ j h. high-bit bits (switchesOf l) j h) i;
-        phase = l .ticks % divisorOf (l .hundredth);
-        hundredth = l .hundredth;
-      })
+      (λ i.
+      switchesWith
+      (packed-same (λ k. k .on) 0 (selected bits) (l .counters) (λ j k. refl) i)
+      (register-of (λ k. k .low) (selected bits) _ (mod-lt bits (pow-pos 16)) (λ j h. low-bit bits (switchesOf l) j h) i)
+      (register-of (λ k. k .high) (selected bits) _ (mod-lt (bits / 2 ^ 32) (pow-pos 16)) (λ j h. high-bit bits (switchesOf l) j h) i)
+      l)
 
   -- what changes events alone
   events-kept : (f : ℕ → Counter → Counter) (values : List ℕ) → ((j : ℕ) (k : Counter) → (f j k .on ≡ k .on) × ((f j k .high ≡ k .high) × (f j k .low ≡ k .low))) → values ≡ map valueOf (eachFrom 0 f (l .counters)) → Kept (tells 0 0 (each f l)) (done 0 (withCounted values (switchesOf l)))
   events-kept f values e v =
       each-kept f values (switchesOf l) v
-      (λ i. record {
-        enabled = packed-same (λ k. k .on) 0 f (l .counters) (λ j k. e j k .0) i;
-        low = packed-same (λ k. k .low) 0 f (l .counters) (λ j k. e j k .1 .1) i;
-        high = packed-same (λ k. k .high) 0 f (l .counters) (λ j k. e j k .1 .0) i;
-        phase = l .ticks % divisorOf (l .hundredth);
-        hundredth = l .hundredth;
-      })
+      (λ i.
+      switchesWith
+      (packed-same (λ k. k .on) 0 f (l .counters) (λ j k. e j k .0) i)
+      (packed-same (λ k. k .low) 0 f (l .counters) (λ j k. e j k .1 .1) i)
+      (packed-same (λ k. k .high) 0 f (l .counters) (λ j k. e j k .1 .0) i)
+      l)
 
   -- 10
   clear-kept : (bits : ℕ) → Kept (tells 0 0 (each (cleared bits) l)) (done 0 (withCounted (Bank·each (λ i v. cond (bit (bits % 2 ^ 16) i) 0 v) 0 (map valueOf (l .counters))) (switchesOf l)))
