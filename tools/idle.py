@@ -189,7 +189,7 @@ VERSIONS = {
             ('crates/control/src/control.rt', 'self.readwait = pair(bits / 16 % 2 == 1, bits / 32 % 2 == 1,', 'self.readwait = pair(bits / 4 % 2 == 1, bits / 8 % 2 == 1,'),
             ('crates/control/specs/Control.antt', '(pair (bit d 2) (bit d 3) (c .writewait))', '(pair (bit d 4) (bit d 5) (c .writewait))'),
             ('crates/control/specs/Control.antt', '(pair (bit d 4) (bit d 5) (c .readwait))', '(pair (bit d 2) (bit d 3) (c .readwait))'),
-        ], ['control', 'chip', 'marked'], [('history', 'configured-kept')]),
+        ], ['control', 'chip'], [('history', 'configured-kept'), ('marked', 'marked-examples')]),
     'flags_exchanged': (
         'CSR bit 8 reads as flag 9, bit 9 as flag 8', [
             ('crates/control/src/control.rt', '256 * one(self.flagfull) + 512 * one(self.flagbusy)', '512 * one(self.flagfull) + 256 * one(self.flagbusy)'),
@@ -312,6 +312,14 @@ VERSIONS = {
             ('crates/chip/specs/Rows.antt', 'c .switches .phase < 100', 'c .switches .phase < 99'),
             ('crates/chip/proofs/RoomLaws.antt', 'c .switches .phase < 100', 'c .switches .phase < 99'),
         ], ['counters', 'chip', 'marked'], [('history', 'slow-same')]),
+    'discards_after_a_reset': (
+        "document 02's Wish 7: neither reset sets write wait, and what is said by numbers goes with it", [
+            ('crates/control/src/control.rt', 'writewait: true,', 'writewait: false,'),
+            ('crates/control/specs/Control.antt', 'writewait = true; readwait = false; flagfull = false;', 'writewait = false; readwait = false; flagfull = false;'),
+            ('crates/control/proofs/FreshLaws.antt', '≡ 4', '≡ 0'),
+            ('crates/chip/proofs/Resets.antt', '1 ∷ replicate 86 0', '0 ∷ replicate 86 0', 3),
+            ('crates/chip/proofs/Resets.antt', 'done 4', 'done 0', 4),
+        ], ['control', 'chip', 'marked'], [('history', 'reset-record')]),
 }
 
 

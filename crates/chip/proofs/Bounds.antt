@@ -25,7 +25,7 @@ use Rattle.control.specs.Control.{waited}
 use Rattle.control.specs.Fate.{Fate, isOff, isFiltered, isLost, isTold, isTaken}
 use Rattle.control.specs.declared.control.Control.{Control}
 use Rattle.control.specs.declared.reply.Reply.the-variants.{Lines, NoWord, Wait, Busy, Outside}
-use Rattle.chip.specs.Chip.{afterTicks, done, externalEvents, fateOf, fresh, inside, lineOf, nodeTicks, oneLine, read, readAt, readCounter, replied, sampleNow, send, sendInto, sendNow, softReset, takeSample, timestampTicks, trigger, triggerBy, withBank, withChoice, withControl, withQueue, withSources, withStamp, withSwitches, write, writeAt}
+use Rattle.chip.specs.Chip.{afterTicks, done, externalEvents, fateOf, fresh, inside, lineOf, nodeTicks, oneLine, read, readAt, readCounter, replied, sampleNow, send, sendInto, sendNow, softReset, takeSample, timestampTicks, trigger, triggerBy, withBank, withControl, withQueue, withSources, withSwitches, write, writeAt}
 use Rattle.chip.specs.Operation.{Operation, opReset, opWrite, opRead, opTicks, opNodes, opEvents, opSend, opFill, step}
 use Rattle.chip.specs.Place.{placeOf}
 use Rattle.chip.specs.Repeat.{repeat}
@@ -37,7 +37,7 @@ use Rattle.chip.specs.declared.place.Place.{Place}
 use Rattle.chip.specs.declared.place.Place.the-variants.{Beyond, Nowhere, Reset, Csr, Timestamp, Filter, Waits, Overruns, Mux, Clear, Enable, Disable, Source, Counter, Trigger}
 use Rattle.chip.proofs.ChipLaws.{by-bounds, either, inside-by, inside-phase, inside-queue, inside-stamp}
 use Rattle.chip.proofs.Replies.{reply-15}
-use Rattle.chip.proofs.Resets.{reset-record}
+use Rattle.chip.proofs.Resets.{reset-inside, reset-record}
 use Rattle.chip.proofs.WidthLaws.{each-within, within-set}
 
 -- ---- the bounds of a record with another part
@@ -126,12 +126,12 @@ write-keeps P (Trigger r level) bits lines c h k m e d z f s n t =
 write-inside : (p : Place) (bits lines : ℕ) (c : Chip) → inside c ≡ true → inside (writeAt p bits lines c .chip) ≡ true
 write-inside p bits lines c h =
     write-keeps (λ d. inside d ≡ true) p bits lines c h (λ k. h) h h h h (λ i. h) (λ i. h)
-    (ap inside (reset-record c) ∙ inside-by (withStamp (c .stamp) (withChoice (c .switches .hundredth) fresh)) refl (divisor-some (c .switches .hundredth)) (inside-stamp c h))
+    (ap inside (reset-record c) ∙ reset-inside (c .stamp) (c .switches .hundredth) (inside-stamp c h))
     (λ r. take-inside r (lineOf lines) bits c h)
 
 pub keeps-inside : (op : Operation) (c : Chip) → inside c ≡ true → inside (step op c .chip) ≡ true
 unfolding write read timestampTicks nodeTicks externalEvents send sendInto sendMany
-keeps-inside (opReset hundredth) c h = inside-by (withChoice hundredth fresh) refl (divisor-some hundredth) (omega arith)
+keeps-inside (opReset hundredth) c h = reset-inside 0 hundredth (omega arith)
 keeps-inside (opWrite a bits lines) c h =
     guarded-keeps (λ d. inside d ≡ true) (inside c) c (writeAt (placeOf a) bits lines c) h (write-inside (placeOf a) bits lines c h)
 keeps-inside (opRead a) c h =

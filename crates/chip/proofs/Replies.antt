@@ -3,7 +3,7 @@
 use Prim.Native.Nat.{ℕ, _-_, _%_, _^_, _≤_, _<_}
 use native.Mathlib.Omega.{arith}
 use mathlib.Core.Path.{_≡_, refl, sym, ap, ap₂, _∙_}
-use mathlib.Core.Bool.{Bool, true, false, cond, not, _&&_, _||_}
+use mathlib.Core.Bool.{Bool, true, false, cond, not, _&&_, _||_, and-false}
 use mathlib.Core.List.{List, [], _∷_, map}
 use lib.Dec.{leb, ltb, eqb}
 use lib.ListN.{getD}
@@ -17,7 +17,7 @@ use Rattle.control.proofs.ReplyLaws.{reply-one}
 use Rattle.chip.specs.Chip.{done, externalEvents, inside, lacksRoom, lineOf, nodeTicks, oneLine, read, readAt, readCounter, replied, send, sendInto, timestampTicks, trigger, triggerBy, withBank, withControl, write, writeAt}
 use Rattle.chip.specs.Operation.{Operation, opReset, opWrite, opRead, opTicks, opNodes, opEvents, opSend, opFill, step}
 use Rattle.chip.specs.Place.{placeOf, registerOf}
-use Rattle.chip.specs.Rows.{counterAt, mapped, passes, readOnly, row0, row1, row2, row3, row4, row5, row6, row7, row8, row10, row11, row15, triggering, vacant, writeOnly}
+use Rattle.chip.specs.Rows.{counterAt, lacking, mapped, oneActive, passes, readOnly, row0, row1, row2, row3, row4, row5, row6, row7, row8, row10, row11, row15, triggerCase, triggering, vacant, writeOnly}
 use Rattle.chip.specs.Told.{Told, told}
 use Rattle.chip.specs.declared.chip.Answer.{Answer}
 use Rattle.chip.specs.declared.chip.Chip.{Chip}
@@ -193,6 +193,18 @@ all-rows (opFill room) c = marks-done (inside c) c _ _
 
 -- ---- the rows
 
+-- no operation is a trigger that a test lets through where the test lets none through
+trigger-never : (f : ℕ → Bool) → ((a : ℕ) → f a ≡ false) → (op : Operation) → triggerCase f op ≡ false
+trigger-never f none (opReset hundredth) = refl
+trigger-never f none (opWrite a bits lines) =
+    simp (none a, and-false (oneActive lines), and-false (triggering a))
+trigger-never f none (opRead a) = refl
+trigger-never f none (opTicks k) = refl
+trigger-never f none (opNodes k) = refl
+trigger-never f none (opEvents mask) = refl
+trigger-never f none opSend = refl
+trigger-never f none (opFill room) = refl
+
 module _ (op : Operation) (c : Chip) where
   row-at : (k : ℕ) → getD (marks (step op c .number)) k false ≡ getD (rows op c) k false
   row-at k = ap (λ (l : List Bool). getD l k false) (all-rows op c)
@@ -223,6 +235,16 @@ module _ (op : Operation) (c : Chip) where
 
   pub reply-8 : eqb (step op c .number) 8 ≡ row8 op c
   reply-8 = row-at 8
+
+  -- so where write wait is set nothing is answered 8
+  pub waiting-never-8 : c .control .writewait ≡ true → eqb (step op c .number) 8 ≡ false
+  waiting-never-8 w =
+      reply-8
+      ∙ ap (λ (b : Bool). inside c && b) (trigger-never (λ a. c .control .sampling && (passes c a && (lacking c a && not (c .control .writewait)))) none op)
+      ∙ and-false (inside c)
+    where
+      none : (a : ℕ) → (c .control .sampling && (passes c a && (lacking c a && not (c .control .writewait)))) ≡ false
+      none a = simp (w, and-false (lacking c a), and-false (passes c a), and-false (c .control .sampling))
 
   pub reply-10 : eqb (step op c .number) 10 ≡ row10 op c
   reply-10 = row-at 9

@@ -1,17 +1,20 @@
 -- A hardware reset gives a fresh record but for its choice, whatever came in, and a software reset inside the bounds one but for the Timestamp
--- and the choice in force: by computation. No other operation touches the choice. Assumes nothing.
-use Prim.Native.Nat.{ℕ}
+-- and the choice in force: by computation. Assumes nothing.
+use Prim.Native.Nat.{ℕ, _^_, _<_}
+use native.Mathlib.Omega.{arith}
 use mathlib.Core.Path.{_≡_, refl, sym, ap, ap₂, _∙_}
 use mathlib.Core.Bool.{Bool, true, false, cond}
 use mathlib.Core.List.{_∷_}
 use lib.ListN.{replicate}
-use Rattle.chip.specs.Chip.{done, fresh, inside, softReset, withChoice, withStamp, write, writeAt}
-use Rattle.chip.specs.Operation.{opReset, opWrite, step}
+use Rattle.counters.proofs.TickLaws.{divisor-some}
+use Rattle.queue.specs.Queue.{anyResource}
+use Rattle.chip.specs.Chip.{done, fresh, inside, read, readAt, softReset, withChoice, withStamp, write, writeAt}
+use Rattle.chip.specs.Operation.{opRead, opReset, opWrite, step}
 use Rattle.chip.specs.Parts.{numbersOf}
 use Rattle.chip.specs.Place.{placeOf, registerOf}
 use Rattle.chip.specs.Told.{Told}
 use Rattle.chip.specs.declared.chip.Chip.{Chip}
-use Rattle.chip.proofs.ChipLaws.{guard-in}
+use Rattle.chip.proofs.ChipLaws.{guard-in, inside-by, inside-stamp}
 
 -- "Hardware reset: every part becomes zero, Timestamp included. That is a fresh chip"; document 02, Wish 2: "Let a hardware reset choose by a
 -- yes or no"
@@ -22,14 +25,26 @@ hard-reset hundredth c = refl
 pub hard-fresh : (c : Chip) → step (opReset false) c ≡ done 0 fresh
 hard-fresh c = refl
 
--- "every part becomes zero": Timestamp and choice, 2 numbers and 8 places of 4 numbers of the queue, 16 counters and shadows, 8 Source
--- Addresses, 7 numbers and 6 marks of the settings
-pub fresh-zero : numbersOf fresh ≡ replicate 89 0
-fresh-zero = refl
+-- "every part becomes zero": Timestamp and choice, then, after write wait, 2 numbers and 8 places of 4 numbers of the queue, 16 counters and
+-- shadows, 8 Source Addresses, 7 numbers and 5 marks of the settings; document 02, Wish 7: "write wait shall be set", the one 1
+pub fresh-numbers : numbersOf fresh ≡ 0 ∷ 0 ∷ 1 ∷ replicate 86 0
+fresh-numbers = refl
 
--- so a hardware reset leaves zeros and its choice
-pub hard-numbers : (hundredth : Bool) (c : Chip) → numbersOf (step (opReset hundredth) c .chip) ≡ 0 ∷ cond hundredth 1 0 ∷ replicate 87 0
+-- so a hardware reset leaves its choice, write wait and zeros
+pub hard-numbers : (hundredth : Bool) (c : Chip) → numbersOf (step (opReset hundredth) c .chip) ≡ 0 ∷ cond hundredth 1 0 ∷ 1 ∷ replicate 86 0
 hard-numbers hundredth c = refl
+
+-- what a reset leaves is inside the bounds, and the CSR reads 4 there: write wait, and nothing else
+module _ (stamp : ℕ) (hundredth : Bool) (s : stamp < 2 ^ 56) where
+  pub reset-inside : inside (withStamp stamp (withChoice hundredth fresh)) ≡ true
+  reset-inside = inside-by (withStamp stamp (withChoice hundredth fresh)) refl (divisor-some hundredth) s
+
+  reset-csr : step (opRead 1) (withStamp stamp (withChoice hundredth fresh)) ≡ done 4 (withStamp stamp (withChoice hundredth fresh))
+  unfolding read readAt placeOf registerOf anyResource
+  reset-csr = sym (guard-in (withStamp stamp (withChoice hundredth fresh)) (done 4 (withStamp stamp (withChoice hundredth fresh))) reset-inside)
+
+pub hard-csr : (hundredth : Bool) (c : Chip) → step (opRead 1) (step (opReset hundredth) c .chip) ≡ done 4 (withChoice hundredth fresh)
+hard-csr hundredth c = reset-csr 0 hundredth (omega arith)
 
 -- what a software reset makes of a record
 pub reset-record : (c : Chip) → softReset c ≡ withStamp (c .stamp) (withChoice (c .switches .hundredth) fresh)
@@ -43,8 +58,11 @@ module _ (bits lines : ℕ) (c : Chip) (h : inside c ≡ true) where
   soft-reset = sym (guard-in c (done 0 (softReset c)) h) ∙ ap (done 0) (reset-record c)
 
   -- number by number
-  pub soft-numbers : numbersOf (step (opWrite 0 bits lines) c .chip) ≡ c .stamp ∷ cond (c .switches .hundredth) 1 0 ∷ replicate 87 0
+  pub soft-numbers : numbersOf (step (opWrite 0 bits lines) c .chip) ≡ c .stamp ∷ cond (c .switches .hundredth) 1 0 ∷ 1 ∷ replicate 86 0
   soft-numbers = ap (λ (t : Told). numbersOf (t .chip)) soft-reset
+
+  pub soft-csr : step (opRead 1) (step (opWrite 0 bits lines) c .chip) ≡ done 4 (withStamp (c .stamp) (withChoice (c .switches .hundredth) fresh))
+  soft-csr = ap (λ (t : Told). step (opRead 1) (t .chip)) soft-reset ∙ reset-csr (c .stamp) (c .switches .hundredth) (inside-stamp c h)
 
 -- so of two records nothing but the Timestamp and the choice can be read after it
 pub soft-reset-same : (bits lines bits′ lines′ : ℕ) (c d : Chip) → inside c ≡ true → inside d ≡ true → c .stamp ≡ d .stamp → c .switches .hundredth ≡ d .switches .hundredth → step (opWrite 0 bits lines) c ≡ step (opWrite 0 bits′ lines′) d

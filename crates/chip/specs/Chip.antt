@@ -15,7 +15,7 @@ use Rattle.samples.specs.declared.edition.Edition.the-variants.{First}
 use Rattle.queue.specs.Queue.{advanced, busy, emptyQueue, full, insideQueue, nextWord, pushed, sendBuffer, sendMany}
 use Rattle.queue.specs.declared.queue.Held.{Held}
 use Rattle.queue.specs.declared.queue.Queue.{Queue}
-use Rattle.control.specs.Control.{configured, csrOf, filtering, headerOf, noControl, overran, taken, overrunsCleared, waitsCleared, waited}
+use Rattle.control.specs.Control.{configured, csrOf, filtering, freshControl, headerOf, overran, taken, overrunsCleared, waitsCleared, waited}
 use Rattle.control.specs.Fate.{Fate, fate, isOff, isFiltered, isLost, isTold, isTaken}
 use Rattle.control.specs.Reply.{rowOf}
 use Rattle.control.specs.declared.control.Control.{Control}
@@ -53,9 +53,10 @@ withChoice b c =
     let s = c .switches in
     withSwitches (record { enabled = s .enabled; low = s .low; high = s .high; phase = s .phase; hundredth = b }) c
 
--- ---- resets, by "The chip's operations" and "Software reset", and by document 02, Wish 2
+-- ---- resets, by "The chip's operations" and "Software reset", and by document 02, Wishes 2 and 7
 
--- "every part becomes zero, Timestamp included. That is a fresh chip"; "A fresh chip has the tenth"
+-- "every part becomes zero, Timestamp included. That is a fresh chip"; but for write wait, which is set (Wish 7). "A fresh chip has the tenth"
+-- (Wish 2)
 abbrev pub fresh : Chip
 fresh =
     record {
@@ -63,7 +64,7 @@ fresh =
       queue = emptyQueue;
       bank = zeroBank;
       sources = replicate 8 0;
-      control = noControl;
+      control = freshControl;
       switches = zeroSwitches false;
     }
 

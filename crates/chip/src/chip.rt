@@ -48,7 +48,7 @@ pub struct Answer {
 }
 
 impl Chip {
-    // Every part zero, and the slow clock at a tenth of the Timestamp's.
+    // Every part zero, but write wait set, and the slow clock at a tenth of the Timestamp's.
     pub fn fresh() -> Chip
         ensures { λ r. ⌜ r ≡ fresh ⌝ }
     {
@@ -64,7 +64,7 @@ impl Chip {
             queue: Queue::empty(),
             bank: Bank::zero(),
             sources: [0; 8],
-            control: Control::zero(),
+            control: Control::fresh(),
             switches: Switches::zero(hundredth),
         }
     }

@@ -166,7 +166,7 @@ pub fn wait_wrap() {
 
 pub fn overrun_wrap() {
     print::heading(b"The Overrun Counter wraps at 2^32, its flags set");
-    let mut chip = given::counted(given::ready(), 4294967295, 4294967295);
+    let mut chip = given::counted(given::discarding(), 4294967295, 4294967295);
     chip = steps::triggers(chip, 96, 8);
     chip = steps::read(chip, 6);
     chip = steps::write(chip, 96, 0, 1);

@@ -7,6 +7,15 @@ pub fn ready() -> Chip {
     filtering(1)
 }
 
+// The same with discard chosen: a trigger without room is lost.
+pub fn discarding() -> Chip {
+    let mut chip = ready();
+    let mut control = chip.control;
+    control.writewait = false;
+    chip.control = control;
+    chip
+}
+
 // A fresh chip with sampling on and a Filter.
 pub fn filtering(filter: u16) -> Chip {
     let mut chip = Chip::fresh();

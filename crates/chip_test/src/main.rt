@@ -17,6 +17,7 @@ fn main() {
     resets::software_reset();
     resets::phase_after_reset();
     resets::hardware_reset();
+    resets::wait_after_reset();
     resets::speeds();
     sending::lengths();
     sending::as_single_sends();
@@ -44,6 +45,7 @@ fn every_trigger() {
     queueing::last_word_frees();
     queueing::shadows_busy();
     queueing::both_reasons();
+    queueing::wait_by_default();
     queueing::write_wait();
     queueing::read_wait();
     queueing::lines_and_sources();

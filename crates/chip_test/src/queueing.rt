@@ -28,7 +28,7 @@ pub fn order_of_refusals() {
     chip = steps::write(chip, 96, 0, 0);
     chip = steps::write(chip, 96, 0, 3);
     chip = steps::write(chip, 96, 0, 1);
-    chip = steps::set(chip, 1, 1);
+    chip = steps::set(chip, 1, 9);
     chip = steps::write(chip, 96, 0, 3);
     chip = steps::write(chip, 96, 0, 1);
     chip = steps::set(chip, 4, 1);
@@ -44,7 +44,7 @@ pub fn order_of_refusals() {
 // M6.
 pub fn last_word_frees() {
     print::heading(b"A place is free with its sample's last word, not its first");
-    let mut chip = given::ready();
+    let mut chip = given::discarding();
     chip = steps::triggers(chip, 96, 8);
     chip = steps::write(chip, 96, 0, 1);
     chip = steps::read(chip, 6);
@@ -64,7 +64,7 @@ pub fn last_word_frees() {
 // M7, and the shadows to the last word.
 pub fn shadows_busy() {
     print::heading(b"A Resource sample keeps the shadows to its last word");
-    let mut chip = given::ready();
+    let mut chip = given::discarding();
     chip = steps::write(chip, 112, 0, 1);
     chip = steps::write(chip, 112, 0, 1);
     chip = steps::read(chip, 1);
@@ -83,7 +83,7 @@ pub fn shadows_busy() {
 
 pub fn both_reasons() {
     print::heading(b"Both reasons: one loss, both flags; address 6 keeps the lost mark");
-    let mut chip = given::ready();
+    let mut chip = given::discarding();
     chip = steps::write(chip, 112, 0, 1);
     chip = steps::triggers(chip, 96, 7);
     chip = steps::read(chip, 1);
@@ -101,10 +101,31 @@ pub fn both_reasons() {
     steps::sends(chip, 17);
 }
 
+// Document 02, Wish 7: no CSR bit is written but sampling's.
+pub fn wait_by_default() {
+    print::heading(b"Wait by default: a fresh chip's ninth trigger");
+    ninth_waits(Chip::fresh());
+}
+
+// Sampling and level 0 on, then nine Trace triggers; the ninth again when there is room. Its header has no lost mark.
+pub fn ninth_waits(reset: Chip) {
+    let mut chip = steps::read(reset, 1);
+    chip = steps::set(chip, 1, 1);
+    chip = steps::set(chip, 4, 1);
+    chip = steps::triggers(chip, 96, 8);
+    chip = steps::write(chip, 96, 0, 1);
+    chip = steps::read(chip, 5);
+    chip = steps::read(chip, 6);
+    chip = steps::read(chip, 1);
+    chip = steps::sends(chip, 16);
+    chip = steps::write(chip, 96, 0, 1);
+    chip = steps::sends(chip, 112);
+    steps::sends(chip, 17);
+}
+
 pub fn write_wait() {
     print::heading(b"Write wait: 10 and no loss");
     let mut chip = given::ready();
-    chip = steps::set(chip, 1, 4);
     chip = steps::write(chip, 112, 0, 1);
     chip = steps::write(chip, 112, 0, 1);
     chip = steps::triggers(chip, 96, 7);
@@ -167,7 +188,7 @@ pub fn fixed_at_trigger() {
 // A counter read copies too, but a busy shadow is kept from it.
 pub fn kept_from_reads() {
     print::heading(b"A refused counter read and a lost trigger leave the shadows");
-    let mut chip = given::ready();
+    let mut chip = given::discarding();
     chip = steps::set(chip, 8, 281470681808895);
     chip = steps::set(chip, 11, 32768);
     chip = steps::node_ticks(chip, 5);

@@ -76,7 +76,9 @@ pub fn enabled_set() {
 
 pub fn csr() {
     print::heading(b"CSR settings go by pairs");
-    let mut chip = Chip::fresh();
+    let mut chip = steps::read(Chip::fresh(), 1);
+    chip = steps::set(chip, 1, 8);
+    chip = steps::read(chip, 1);
     chip = steps::set(chip, 1, 1);
     chip = steps::read(chip, 1);
     chip = steps::set(chip, 1, 4);

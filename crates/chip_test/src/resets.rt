@@ -1,6 +1,7 @@
 // Resets, also in the middle of a sample.
 use super::counting::first_slow_event;
 use super::given;
+use super::queueing::ninth_waits;
 use super::steps;
 use chip::chip::Chip;
 use printing::print;
@@ -48,6 +49,16 @@ pub fn hardware_reset() {
     steps::is_fresh(chip, 0, false);
     chip = steps::send(chip);
     steps::hardware_reset(chip, false);
+}
+
+// Document 02, Wish 7: sampling, discard and read wait were chosen before each reset.
+pub fn wait_after_reset() {
+    print::heading(b"Either reset sets write wait, and turns sampling and read wait off");
+    let mut chip = steps::set(Chip::fresh(), 1, 25);
+    chip = steps::read(chip, 1);
+    ninth_waits(steps::set(chip, 0, 0));
+    ninth_waits(steps::hardware_reset(chip, false));
+    ninth_waits(steps::hardware_reset(chip, true));
 }
 
 // Document 02, Wish 2: each hardware reset chooses anew. A software reset keeps the choice, whatever its data, and clears the phase: were that

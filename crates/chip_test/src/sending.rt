@@ -43,7 +43,7 @@ pub fn as_single_sends() {
 
 pub fn resource_and_trace() {
     print::heading(b"A Resource sample and a Trace sample, in one buffer and in three");
-    let mut chip = given::ready();
+    let mut chip = given::discarding();
     chip = steps::write(chip, 112, 0, 1);
     chip = steps::write(chip, 112, 0, 1);
     chip = steps::write(chip, 96, 0, 1);

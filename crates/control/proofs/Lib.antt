@@ -1,3 +1,4 @@
 -- The laws that belong to no one function.
+pub mod FreshLaws
 pub mod HeaderLaws
 pub mod ReplyLaws

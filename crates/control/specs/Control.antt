@@ -5,10 +5,11 @@ use mathlib.Core.Bool.{Bool, true, false, cond, _||_}
 use Rattle.counters.specs.Bank.{bit, grown}
 use Rattle.control.specs.declared.control.Control.{Control}
 
--- "every part becomes zero"; "After a reset the three settings are 0"
-abbrev pub noControl : Control
-noControl =
-    record { wait = 0; overrun = 0; filter = 0; sampling = false; writewait = false; readwait = false; flagfull = false; flagbusy = false; lost = false }
+-- "every part becomes zero"; "After a reset the three settings are 0". Document 02, Wish 7, makes of both: "After either reset, write wait
+-- shall be set; sampling and read wait stay off"
+abbrev pub freshControl : Control
+freshControl =
+    record { wait = 0; overrun = 0; filter = 0; sampling = false; writewait = true; readwait = false; flagfull = false; flagbusy = false; lost = false }
 
 -- a control with other settings, other error counters, or other marks
 abbrev pub withSettings : ℕ → Bool → Bool → Bool → Control → Control

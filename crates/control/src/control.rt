@@ -2,7 +2,7 @@
 ghost use mathlib.Core.Path.{_≡_};
 ghost use Prim.Native.Nat.{_≤_};
 ghost use Rattle.counters.specs.Bank.{bit};
-ghost use Rattle.control.specs.Control.{configured, csrOf, filtering, headerOf, noControl, one, overran, pair, taken, overrunsCleared, waitsCleared, waited};
+ghost use Rattle.control.specs.Control.{configured, csrOf, filtering, freshControl, headerOf, one, overran, pair, taken, overrunsCleared, waitsCleared, waited};
 
 // No padding (16 bytes).
 pub struct Control {
@@ -20,16 +20,16 @@ pub struct Control {
 pub const TWO_16: u64 = 1 << 16;
 
 impl Control {
-    // After a reset: every setting off, every number and mark zero.
-    pub fn zero() -> Control
-        ensures { λ r. ⌜ r ≡ noControl ⌝ }
+    // After either reset: write wait set, the other settings off, every number and mark zero.
+    pub fn fresh() -> Control
+        ensures { λ r. ⌜ r ≡ freshControl ⌝ }
     {
         Control {
             wait: 0,
             overrun: 0,
             filter: 0,
             sampling: false,
-            writewait: false,
+            writewait: true,
             readwait: false,
             flagfull: false,
             flagbusy: false,

@@ -8,3 +8,4 @@ pub mod Steps
 pub mod StreamLaws
 pub mod Theorems
 pub mod Triggers
+pub mod Unlost

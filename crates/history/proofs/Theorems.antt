@@ -11,6 +11,7 @@ use lib.Seq.{take-all}
 use borrow.Author.Tests.{lt-ltb}
 use Rattle.samples.specs.declared.edition.Edition.the-variants.{First}
 use Rattle.queue.specs.Queue.{emptyQueue}
+use Rattle.control.specs.declared.control.Control.{Control}
 use Rattle.chip.specs.Chip.{fresh, inside}
 use Rattle.chip.specs.Operation.{Operation, opReset, opWrite, opRead, opTicks, opNodes, opEvents, opSend, opFill, step}
 use Rattle.chip.specs.Rows.{checked}
@@ -19,16 +20,18 @@ use Rattle.chip.specs.declared.chip.Chip.{Chip}
 use Rattle.chip.proofs.Bounds.{fresh-shaped, keeps-shaped}
 use Rattle.chip.proofs.Bounds.{never-15 as inside-never-15}
 use Rattle.chip.proofs.Choice.{choice-stays}
-use Rattle.history.specs.Ledger.{Entry, Fate, Ledger, byFate, choiceFrom, fateIn, fateNumber, ledgerFrom, ledgerOf, lineIn, noCounter, resetAt, tells, entryOf, triggered, written}
+use Rattle.chip.proofs.Replies.{waiting-never-8}
+use Rattle.history.specs.Ledger.{Entry, Fate, Ledger, byFate, choiceFrom, discardFrom, fateIn, fateNumber, ledgerFrom, ledgerOf, lineIn, noCounter, resetAt, tells, entryOf, triggered, written}
 use Rattle.history.specs.Run.{chipOf, comeWithin, runFrom, sentFrom, sentOf, toCome}
 use Rattle.history.specs.Stream.{totalOf, wordsOfAll}
 use Rattle.history.proofs.Addresses.{range-trigger}
-use Rattle.history.proofs.Agrees.{Agrees, for-inside}
-use Rattle.history.proofs.CountLaws.{value-at}
+use Rattle.history.proofs.Agrees.{Agrees, controlOf, for-inside}
+use Rattle.history.proofs.CountLaws.{value-at, wrapped}
 use Rattle.history.proofs.HeldLaws.{words-left, words-total}
 use Rattle.history.proofs.HoldsLaws.{holds-left}
 use Rattle.history.proofs.Steps.{agrees-step, reset-good, reset-record}
 use Rattle.history.proofs.StreamLaws.{come-words, stream-step}
+use Rattle.history.proofs.Unlost.{Unlost, list-unlost}
 
 -- ---- the fold
 
@@ -137,7 +140,27 @@ choice-said ops = go ops fresh
 pub ledger-choice : (ops : List Operation) → ledgerOf ops .hundredth ≡ choiceFrom false ops
 ledger-choice ops = sym (ap (λ (c : Chip). c .switches .hundredth) (agrees ops .is)) ∙ choice-said ops
 
--- ---- 8. The chip never answers 15 on such a list
+-- ---- 8. Document 02, Wish 7: where no write at 1 has asked for discard since the last reset, write wait is set, no trigger is lost next, and none
+-- was: neither counted nor flagged nor marked
+
+module _ (ops : List Operation) (e : discardFrom false ops ≡ false) where
+  unlost : Unlost (ledgerOf ops)
+  unlost = list-unlost ops false (resetAt 0 false) (λ f. (refl, (refl, (refl, (refl, refl))))) e
+
+  of-control : {A : Type 0} (f : Control → A) → f (chipOf ops .control) ≡ f (controlOf (ledgerOf ops))
+  of-control f = ap (λ (c : Chip). f (c .control)) (agrees ops .is)
+
+  pub waits-unless-asked : chipOf ops .control .writewait ≡ true
+  waits-unless-asked = of-control (λ k. k .writewait) ∙ unlost .0
+
+  pub nothing-lost : (chipOf ops .control .overrun ≡ 0) × ((chipOf ops .control .flagfull ≡ false) × ((chipOf ops .control .flagbusy ≡ false) × (chipOf ops .control .lost ≡ false)))
+  nothing-lost =
+      (of-control (λ k. k .overrun) ∙ ap wrapped (unlost .1 .0), (of-control (λ k. k .flagfull) ∙ unlost .1 .1 .0, (of-control (λ k. k .flagbusy) ∙ unlost .1 .1 .1 .0, of-control (λ k. k .lost) ∙ unlost .1 .1 .1 .1)))
+
+  pub never-8 : (op : Operation) → eqb (step op (chipOf ops) .number) 8 ≡ false
+  never-8 op = waiting-never-8 op (chipOf ops) waits-unless-asked
+
+-- ---- 9. The chip never answers 15 on such a list
 
 pub always-inside : (ops : List Operation) → inside (chipOf ops) ≡ true
 always-inside ops =
@@ -147,7 +170,7 @@ always-inside ops =
 pub never-15 : (ops : List Operation) (op : Operation) → eqb (step op (chipOf ops) .number) 15 ≡ false
 never-15 ops op = inside-never-15 op (chipOf ops) (always-inside ops)
 
--- ---- 9. And its lists have the lengths and widths that their types give
+-- ---- 10. And its lists have the lengths and widths that their types give
 
 pub always-shaped : (ops : List Operation) → Shaped (chipOf ops)
 unfolding runFrom

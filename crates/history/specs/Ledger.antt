@@ -56,11 +56,12 @@ pub record Ledger : Type 0 where
 abbrev pub noCounter : Counter
 noCounter = record { on = false; high = false; low = false; events = 0 }
 
--- "Everything becomes as after a hardware reset except the Timestamp", and "Software reset keeps the choice": what a reset leaves
+-- "Everything becomes as after a hardware reset except the Timestamp", and "Software reset keeps the choice": what a reset leaves. "After a
+-- reset the three settings are 0", but by document 02, Wish 7: "After either reset, write wait shall be set; sampling and read wait stay off"
 abbrev pub resetAt : ℕ → Bool → Ledger
 resetAt clock hundredth =
     record {
-      settings = record { sampling = false; writewait = false; readwait = false; filter = 0 };
+      settings = record { sampling = false; writewait = true; readwait = false; filter = 0 };
       sources = replicate 8 0;
       clock = clock;
       ticks = 0;
@@ -370,3 +371,17 @@ choiceFrom b (opNodes k ∷ ops) = choiceFrom b ops
 choiceFrom b (opEvents mask ∷ ops) = choiceFrom b ops
 choiceFrom b (opSend ∷ ops) = choiceFrom b ops
 choiceFrom b (opFill room ∷ ops) = choiceFrom b ops
+
+-- document 02, Wish 7, a second time: "Scripts that counted on discard must write CSR bit 3 first". Whether a list did so since its last reset,
+-- by address 1 and bit 3 alone, where b says it of what was before
+unfoldable pub discardFrom : Bool → List Operation → Bool
+discardFrom b [] = b
+discardFrom b (opReset hundredth ∷ ops) = discardFrom false ops
+discardFrom b (opWrite address bits lines ∷ ops) =
+    discardFrom (cond (eqb address 0) false (b || (eqb address 1 && isSet bits 3))) ops
+discardFrom b (opRead address ∷ ops) = discardFrom b ops
+discardFrom b (opTicks k ∷ ops) = discardFrom b ops
+discardFrom b (opNodes k ∷ ops) = discardFrom b ops
+discardFrom b (opEvents mask ∷ ops) = discardFrom b ops
+discardFrom b (opSend ∷ ops) = discardFrom b ops
+discardFrom b (opFill room ∷ ops) = discardFrom b ops

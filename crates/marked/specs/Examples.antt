@@ -1,4 +1,4 @@
--- Document 01, "Marked examples": M1 to M12, each as it is worded there.
+-- Document 01, "Marked examples": M1 to M12, each as it is worded there; by document 02, Wish 7, M6 and M7 write CSR bit 3 first.
 use Prim.Native.Nat.{ℕ, suc}
 use mathlib.Core.List.{List, [], _∷_, _++_}
 use lib.ListN.{replicate}
@@ -8,9 +8,16 @@ use Rattle.samples.specs.declared.sample.Sample.{Sample}
 use Rattle.chip.specs.Operation.{opWrite, opRead, opTicks, opNodes, opEvents, opSend}
 use Rattle.marked.specs.Table.{Line, Row, bytesAre, gives, readerSays, replies, script}
 
--- "sampling on, level 0 on"
+-- "sampling on, level 0 on"; and these with discard, CSR bits 0 and 3: "Scripts that counted on discard must write CSR bit 3 first: M6 and M7 do
+-- so from now on"
+abbrev onWith : ℕ → List Line
+onWith csr = replies (opWrite 1 csr 0) 0 ∷ replies (opWrite 4 1 0) 0 ∷ []
+
 abbrev on : List Line
-on = replies (opWrite 1 1 0) 0 ∷ replies (opWrite 4 1 0) 0 ∷ []
+on = onWith 1
+
+abbrev onDiscarding : List Line
+onDiscarding = onWith 9
 
 -- a trigger with line 0, and what it must reply
 abbrev trigger : ℕ → ℕ → Line
@@ -43,9 +50,9 @@ examples =
     ∷ script (trigger 96 6 ∷ [])
     -- M6 eight Trace triggers taken, the ninth → 8; after 15 sends still 8, after the sixteenth 0
     ∷ script
-    (on ++ replicate 8 (trigger 96 0) ++ (trigger 96 8 ∷ []) ++ replicate 15 (replies opSend 0) ++ (trigger 96 8 ∷ replies opSend 0 ∷ trigger 96 0 ∷ []))
+    (onDiscarding ++ replicate 8 (trigger 96 0) ++ (trigger 96 8 ∷ []) ++ replicate 15 (replies opSend 0) ++ (trigger 96 8 ∷ replies opSend 0 ∷ trigger 96 0 ∷ []))
     -- M7 the same settings, from fresh, two Resource triggers at 112 in a row: 0, then 8 with only flag 9 set (CSR: sampling 1, busy 128, flag 9 512)
-    ∷ script (on ++ (trigger 112 0 ∷ trigger 112 8 ∷ gives (opRead 1) 0 641 ∷ []))
+    ∷ script (onDiscarding ++ (trigger 112 0 ∷ trigger 112 8 ∷ gives (opRead 1) 0 641 ∷ []))
     -- M8 enabled counter at 4,294,967,295, one event of its kind → 0: counter 0 on the node clock
     ∷ script
     (replies (opWrite 8 4294967297 0) 0 ∷ replies (opWrite 11 1 0) 0 ∷ replies (opNodes 4294967295) 0 ∷ gives (opRead 32) 0 4294967295 ∷ replies (opNodes 1) 0 ∷ gives (opRead 32) 0 0 ∷ [])

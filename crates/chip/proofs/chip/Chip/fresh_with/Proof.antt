@@ -1,4 +1,4 @@
--- `chip::chip::Chip::fresh_with` meets its contract: the Timestamp, and each other part's zero, the switches' with the choice. Assumes nothing.
+-- `chip::chip::Chip::fresh_with` meets its contract: the Timestamp, a fresh control, and each other part's zero, the switches' with the choice. Assumes nothing.
 use borrow.Author.Needs.{needs}
 use lib.ListN.{replicate}
 use Rattle.chip.proofs.chip.Chip.fresh_with.Statement.{statement}
@@ -10,11 +10,11 @@ empty-requires c κs = search needs
 zero-requires : tie.Need-zero-requires
 zero-requires c κs = search needs
 
+fresh-requires : tie.Need-fresh-requires
+fresh-requires c κs = search needs
+
 zero-requires-2 : tie.Need-zero-requires-2
 zero-requires-2 c κs = search needs
-
-zero-requires-3 : tie.Need-zero-requires-3
-zero-requires-3 c κs = search needs
 
 returns : tie.Need-returns
 returns c =
@@ -24,9 +24,9 @@ returns c =
       queue = c .before .before .before .empty .ensures i;
       bank = c .before .before .zero .ensures i;
       sources = replicate 8 0;
-      control = c .before .zero2 .ensures i;
-      switches = c .zero3 .ensures i;
+      control = c .before .fresh .ensures i;
+      switches = c .zero2 .ensures i;
     }
 
 pub fresh-with-spec : {M : Type 1} → statement M
-fresh-with-spec = tie.close (tie.spec empty-requires zero-requires zero-requires-2 zero-requires-3 returns)
+fresh-with-spec = tie.close (tie.spec empty-requires zero-requires fresh-requires zero-requires-2 returns)
