@@ -1,7 +1,7 @@
 //! The twin: a plain Rust bench for the MultiKron chip in normal mode,
-//! written from document 01 and Wish 2 of document 02 alone. Bracketed words
-//! in the comments name the heading of document 01, or the wish of document
-//! 02, that a rule comes from.
+//! written from document 01 and Wishes 2 and 7 of document 02 alone. Bracketed
+//! words in the comments name the heading of document 01, or the wish of
+//! document 02, that a rule comes from.
 //!
 //! Build: rustc --edition 2021 -O -o OUT twin/main.rs
 
@@ -194,15 +194,17 @@ struct Chip {
 }
 
 impl Chip {
-    /// [The chip's operations] A fresh chip: all zero. [Wish 2] It has the
-    /// tenth.
+    /// [The chip's operations] A fresh chip: "every part becomes zero".
+    /// [Wish 2] It has the tenth. [Wish 7] Those words, and "After a reset the
+    /// three settings are 0" in [CSR], now read with one exception: write wait
+    /// is set. Sampling and read wait stay off.
     fn new() -> Chip {
         Chip {
             timestamp: 0,
             slow_hundredth: false,
             slow_phase: 0,
             sampling: false,
-            write_wait: false,
+            write_wait: true,
             read_wait: false,
             overrun_full: false,
             overrun_shadows: false,
@@ -220,7 +222,8 @@ impl Chip {
         }
     }
 
-    /// [Wish 2] A fresh chip, but for the speed of the slow clock.
+    /// [Wish 2] A fresh chip, but for the speed of the slow clock. [Wish 7] So
+    /// write wait is set.
     fn hardware_reset(&mut self, slow_hundredth: bool) -> Reply {
         *self = Chip { slow_hundredth, ..Chip::new() };
         done(0)
@@ -228,6 +231,7 @@ impl Chip {
 
     /// [Software reset] As after a hardware reset, except the Timestamp.
     /// [Wish 2] The speed of the slow clock is kept too, its phase is not.
+    /// [Wish 7] Write wait is set, whatever it was.
     fn software_reset(&mut self) {
         *self = Chip {
             timestamp: self.timestamp,

@@ -1,6 +1,6 @@
 #!/usr/bin/env python3
-"""Builds the twin and checks it from outside, against document 01 and Wish 2
-of document 02."""
+"""Builds the twin and checks it from outside, against document 01 and Wishes 2
+and 7 of document 02."""
 
 import collections
 import itertools
@@ -128,7 +128,8 @@ def sample(header, source=0, time=0, user=0, counters=None):
     return data
 
 
-ON = quiet([write(1, 1), write(4, ALL)])
+# Sampling on, discard, every level on. Wish 7: discard must be chosen first.
+ON = quiet([write(1, 9), write(4, ALL)])
 
 
 def value(number):
@@ -154,7 +155,7 @@ def marked_examples():
     play("M5", [(write(96, 0, 0), 4), (write(96, 0, 3), 4), (write(96, 0, 1), 6)])
     play("M5 with sampling on", ON + [(write(96, 0, 0), 4), (write(96, 0, 3), 4)])
 
-    on = quiet([write(1, 1), write(4, 1)])
+    on = quiet([write(1, 9), write(4, 1)])
     m6 = on + [(write(96, 0, 1), 0)] * 8 + [(write(96, 0, 1), 8)]
     m6 += [(send(), None)] * 15 + [(write(96, 0, 1), 8), (send(), None)]
     m6 += [(write(96, 0, 1), 0)]
@@ -166,7 +167,7 @@ def marked_examples():
     play("M6, a trigger after every send", m6_each)
 
     play("M7", on + [(write(112, 0, 1), 0), (write(112, 0, 1), 8),
-                     (read(1), value(1 | 1 << 7 | 1 << 9)), (read(6), value(1))])
+                     (read(1), value(641)), (read(6), value(1))])
 
     counter_at_top = [
         (write(8, 0x0000FFFF0000FFFF), 0), (write(11, 1), 0), (node(TOP32), 0),
@@ -268,16 +269,17 @@ def easy_errors():
         steps += ON + [(write(112, 0, 1), 0)] + sends(sample(8, 0, 0, 0, [0] * 16))
         play(name + " reset frees the shadows", steps)
         steps = ON + quiet([write(96, 5, 1)] * 8) + [(send(), None)] * 5 + [(reset, 0)]
-        steps += [(send(), 5), (read(1), 0)] + ON + [(write(96, 9, 1), 0)]
+        steps += [(send(), 5), (read(1), value(4))] + ON + [(write(96, 9, 1), 0)]
         play(name + " reset drops a sample half sent", steps + sends(sample(0, 0, 0, 9)))
         steps = [(write(1, 0x15), 0), (write(4, ALL), 0), (write(8, TOP64), 0),
                  (write(11, ALL), 0), (stamp(12345), 0), (node(5), 0)]
         steps += quiet([write(16 + i, 1 + i) for i in range(8)])
         steps += [(write(112, 0, 1), 0), (write(112, 0, 1), 10), (read(32), 10),
-                  (write(1, 8), 0), (write(112, 0, 1), 8), (reset, 0)]
-        steps += [(read(i), 0) for i in [1, 4, 5, 6, 8, 11] + list(range(16, 24)) +
+                  (write(1, 8), 0), (write(112, 0, 1), 8), (reset, 0), (read(1), value(4))]
+        steps += [(read(i), 0) for i in [4, 5, 6, 8, 11] + list(range(16, 24)) +
                   list(range(32, 48))]
-        play(name + " reset zeroes every register", steps + [(read(2), value(time))])
+        play(name + " reset zeroes every register but write wait",
+             steps + [(read(2), value(time))])
 
     # Ticks decide: the sample's Timestamp turns over at 2^40.
     steps = ON + quiet([stamp(TOP32)] * 256 + [stamp(255)])
@@ -299,6 +301,8 @@ def address_map():
     for address in range(256):
         if address > 127:
             want = (1, 1)
+        elif address == 1:
+            want = (0, value(4))
         elif address in BOTH:
             want = (0, 0)
         elif address in READ_ONLY:
@@ -349,6 +353,7 @@ def registers():
                       (write(1, bits), 0), (read(1), value(want))]
         play("CSR writes from settings %d" % settings, steps)
     play("other CSR bits do nothing", [
+        (write(1, TOP64 - 63), 0), (read(1), value(4)), (write(1, 0x2A), 0),
         (write(1, TOP64 - 63), 0), (read(1), 0), (write(1, 0x15), 0),
         (write(1, TOP64 - 63), 0), (read(1), value(0x15))])
     play("a CSR write keeps the flags", ON + [
@@ -420,7 +425,7 @@ def counters():
     # The shadows.
     play("counter read with the shadows free", quiet([
         write(8, TOP64), write(11, ALL), node(TOP32)]) + [
-        (read(32), value(TOP32)), (node(2), 0), (read(32), value(1)), (read(1), 0)])
+        (read(32), value(TOP32)), (node(2), 0), (read(32), value(1)), (read(1), value(4))])
     play("shadows busy, not waiting", ON + [
         (write(112, 0, 1), 0)] + [(read(32 + i), BUSY) for i in range(16)] + [(read(5), 0)])
     play("shadows busy, read wait", ON + [(write(1, 16), 0), (write(112, 0, 1), 0)] +
@@ -499,7 +504,7 @@ def slow_clock():
             for before in [0, 1]:
                 play("hardware reset with address %d and lines %d, to the %s" % (
                     address, lines, name), [(hard(before), 0), (stamp(55), 0)] + ON + [
-                    (record(0, address, lines, speed), 0), (read(2), 0), (read(1), 0),
+                    (record(0, address, lines, speed), 0), (read(2), 0), (read(1), value(4)),
                     (read(4), 0)] + speed_shown(speed))
         bad = [record(0, data=data) for data in NO_SPEED]
         bad += [record(0, 255, 255, data) for data in NO_SPEED]
@@ -513,10 +518,10 @@ def slow_clock():
             play("CSR bits %x at the %s" % (bits, name), unchanged_by(
                 [(write(1, bits), 0)], speed, period))
             play("CSR bits %x with settings at the %s" % (bits, name), start + [
-                (write(1, bits), 0), (read(1), 0), (write(1, bits | 0x15), 0),
+                (write(1, bits), 0), (read(1), value(4)), (write(1, bits | 0x15), 0),
                 (read(1), value(0x15)), (write(1, bits), 0), (read(1), value(0x15)),
                 (write(1, bits | 0x2A), 0), (read(1), 0)] + speed_shown(speed) + [
-                (write(1, bits), 0), (write(0), 0), (read(1), 0)] + speed_shown(speed))
+                (write(1, bits), 0), (write(0), 0), (read(1), value(4))] + speed_shown(speed))
 
     # The last hardware reset chooses, software resets keep the choice.
     for length in range(5):
@@ -710,6 +715,94 @@ def triggers():
     play("the queue goes round", steps)
 
 
+# ------------------------------------------------------ wait by default
+
+
+def reset_chips():
+    """Wish 7: a fresh chip, and ways to a reset from busy chips of both speeds
+    under discard or write wait. Each is a name and its steps."""
+    yield "fresh chip", []
+    fill = [(write(112, 0, 1), 0)] + [(write(96, 0, 1), 0)] * 7
+    chosen = [("discard", quiet([write(1, 0x19), write(4, ALL)]) + fill + [
+                  (write(112, 0, 1), 8), (read(6), value(1)), (read(1), value(0x11 | 15 << 6))]),
+              ("write wait", quiet([write(1, 0x15), write(4, ALL)]) + fill + [
+                  (write(112, 0, 1), 10), (read(5), value(1)), (read(1), value(0x15 | 3 << 6))]),
+              ("discard, then write wait", ON + fill + [
+                  (write(96, 0, 1), 8), (write(1, 4), 0), (read(1), value(5 | 7 << 6))]),
+              ("write wait, then discard", quiet([write(1, 5), write(4, ALL)]) + fill + [
+                  (write(96, 0, 1), 10), (write(1, 8), 0), (read(1), value(1 | 3 << 6))]),
+              ("discard alone", [(write(1, 8), 0), (read(1), 0)]),
+              ("nothing", [])]
+    resets = [("software reset", write(0)), ("software reset with data 8", write(0, 8)),
+              ("hardware reset to the tenth", hard(0)),
+              ("hardware reset to the hundredth", hard(1)),
+              ("hardware reset with address 1 and lines 8", record(0, 1, 8, 0))]
+    for (before, steps), (name, reset), (old, speed, _) in itertools.product(
+            chosen, resets, SPEEDS):
+        yield "%s after %s at the %s" % (name, before, old), [(hard(speed), 0)] + steps + [
+            (reset, 0)]
+
+
+def wait_by_default():
+    on = [(write(1, 1), 0), (write(4, 1), 0)]
+    eight = [(write(96, i, 1), 0) for i in range(8)]
+    all_zero = [0] * 16
+    for name, start in reset_chips():
+        play("%s: write wait alone is set" % name, start + [
+            (read(1), value(4)), (write(96, 0, 1), 6), (write(112, 0, 1), 6), (read(5), 0),
+            (read(6), 0), (read(1), value(4))])
+        steps = start + on + eight + [(write(96, 8, 1), 10), (read(5), value(1)), (read(6), 0),
+                                      (read(1), value(69))]
+        first = sends(sample(0))
+        steps += first[:15] + [(write(96, 8, 1), 10), (read(5), value(2))] + first[15:]
+        steps += [(read(1), value(5)), (write(96, 8, 1), 0), (read(1), value(69))]
+        for i in range(1, 9):
+            steps += sends(sample(0, 0, 0, i))
+        steps += [(send(), 5), (read(5), value(2)), (read(6), 0), (read(1), value(5))]
+        play("%s: the ninth Trace trigger waits" % name, steps)
+        steps = start + on + [(write(112, 1, 1), 0), (write(112, 2, 1), 10), (read(5), value(1)),
+                              (read(6), 0), (read(1), value(5 | 1 << 7)), (read(32), BUSY),
+                              (read(5), value(1))]
+        steps += sends(sample(8, 0, 0, 1, all_zero)) + [(read(32), 0), (write(112, 2, 1), 0)]
+        steps += sends(sample(8, 0, 0, 2, all_zero)) + [(send(), 5), (read(1), value(5))]
+        play("%s: the second Resource trigger waits" % name, steps)
+        play("%s: both reasons make one wait" % name, start + on + [(write(112, 0, 1), 0)] +
+             eight[:7] + [(write(112, 0, 1), 10), (read(5), value(1)), (read(6), 0),
+                          (read(1), value(5 | 3 << 6))])
+        play("%s: read wait is off" % name, start + on + [(write(112, 0, 1), 0)] +
+             [(read(32 + i), BUSY) for i in range(16)] + [(read(5), 0)])
+        play("%s: bit 3 chooses discard" % name, start + on + [
+            (write(1, 8), 0), (read(1), value(1))] + eight + [
+            (write(96, 8, 1), 8), (read(5), 0), (read(6), value(1)),
+            (read(1), value(1 | 5 << 6))] + sends(sample(0)) + [(write(96, 9, 1), 0)] +
+            [(send(), None)] * 7 * 16 + sends(sample(16, 0, 0, 9)))
+
+    # Every row of four from CSR writes and resets, one after the other.
+    resets = [write(0), hard(0), hard(1)]
+    steps, settings = [(read(1), value(4))], 4
+    for row in itertools.product([write(1, 0x19), write(1, 0x15), write(1, 0x22)] + resets,
+                                 repeat=4):
+        for each in row:
+            if each == write(1, 0x19):
+                settings = 0x11
+            elif each == write(1, 0x15):
+                settings = 0x15
+            elif each == write(1, 0x22):
+                settings = settings & 4
+            else:
+                settings = 4
+            steps += [(each, 0), (read(1), value(settings))]
+    play("rows of CSR writes and resets", steps)
+
+    # A refused hardware reset brings nothing back.
+    steps = ON + eight
+    refused = [hard(data) for data in NO_SPEED] + [record(0, data=1, zero=255)]
+    for each in refused:
+        steps += [(each, 9), (read(1), value(1 | 1 << 6))]
+    play("a refused hardware reset keeps discard", steps + [
+        (write(96, 0, 1), 8), (read(5), 0), (read(6), value(1))])
+
+
 # --------------------------------------------------------------- format
 
 
@@ -720,7 +813,8 @@ def record_format():
         check("%d bytes after two records" % length, raw((stamp(3) + read(2) + read(2)[:length])),
               HEADING + b"0 0\n0 3\n9 0\n")
     before = quiet([stamp(3), write(4, 5)])
-    after = [(read(2), value(3)), (read(4), value(5)), (read(1), 0), (read(5), 0), (read(6), 0)]
+    after = [(read(2), value(3)), (read(4), value(5)), (read(1), value(4)), (read(5), 0),
+             (read(6), 0)]
     steps = list(before)
     for kind in range(7, 256):
         steps.append((record(kind, 4, 1, 1), 9))
@@ -751,7 +845,7 @@ def record_format():
 
     # Records across the borders of reads, and many blocks.
     chance = random.Random(3)
-    many = [write(1, 1), write(4, ALL), write(11, ALL)]
+    many = [write(1, 9), write(4, ALL), write(11, ALL)]
     for _ in range(60000):
         many.append(chance.choice([write(96 + chance.randrange(32), chance.getrandbits(64),
                                          1 << chance.randrange(8)),
@@ -834,17 +928,22 @@ def long_input():
 
 
 class Slow:
-    """Document 01 and Wish 2 again, with no thought for speed: every tick
+    """Document 01, Wishes 2 and 7 again, with no thought for speed: every tick
     singly, the held samples told from the samples taken and the words sent."""
 
-    def __init__(self, slow_period=10):
+    def __init__(self, slow_period=10, last_reset="no reset"):
         self.time = 0
         self.slow_period = slow_period
-        self.reset()
+        self.reset(last_reset)
 
-    def reset(self):
+    def reset(self, last_reset):
+        # For the notes alone: the kind of reset, and whether the script has
+        # chosen between write wait and discard since then.
+        self.last_reset = last_reset
+        self.chosen = False
         self.ticks_since_reset = 0
-        self.settings = {0: 0, 2: 0, 4: 0}
+        # Wish 7: sampling off, write wait set, read wait off.
+        self.settings = {0: 0, 2: 1, 4: 0}
         self.flags = set()
         self.lost = False
         self.filter = self.waits = self.overruns = self.mux = 0
@@ -881,7 +980,7 @@ class Slow:
         if kind == 0 and number not in (0, 1):
             return (9, 0)
         if kind == 0:
-            self.__init__({0: 10, 1: 100}[number])
+            self.__init__({0: 10, 1: 100}[number], "hardware reset")
         elif kind == 1:
             return self.write(address, number, lines)
         elif kind == 2:
@@ -918,8 +1017,9 @@ class Slow:
             return (2, 0)
         chosen = {i for i in range(16) if data >> i & 1}
         if address == 0:
-            self.reset()
+            self.reset("software reset")
         elif address == 1:
+            self.chosen = self.chosen or data & 12 != 0
             for bit in self.settings:
                 if data >> bit & 1:
                     self.settings[bit] = 1
@@ -1001,8 +1101,8 @@ def set_up(chance):
     """Most often what a script needs after a reset, else nothing."""
     if chance.random() < 0.1:
         return []
-    return [write(1, chance.choice([1, 5, 0x11, 0x15])), write(4, ALL), write(11, ALL),
-            write(8, chance.getrandbits(64))]
+    settings = chance.choice([1, 5, 9, 9, 0x11, 0x15, 0x19, 0x19])
+    return [write(1, settings), write(4, ALL), write(11, ALL), write(8, chance.getrandbits(64))]
 
 
 def any_reset(chance):
@@ -1097,13 +1197,47 @@ def speed_records(chance, length):
     return records
 
 
+def room_records(chance, length):
+    """Records about losses and waits: resets of both kinds, after which the
+    script may choose write wait or discard, and more triggers than sends."""
+    settings = [1, 1, 5, 9, 9, 9, 0x11, 0x11, 0x15, 0x19, 0x19, 0x19]
+    records = [write(1, chance.choice(settings)), write(4, ALL)]
+    while len(records) < length:
+        what = chance.choices(range(6), [30, 10, 20, 20, 10, 5])[0]
+        if what == 0:
+            first = chance.choice([96, 96, 112])
+            records += [write(first + chance.randrange(16), chance.getrandbits(64),
+                              1 << chance.randrange(8)) for _ in range(chance.randrange(1, 13))]
+        elif what == 1:
+            records += [send()] * chance.choice([1, 15, 16, 17, 80])
+        elif what == 2:
+            records += [any_reset(chance), write(1, chance.choice(settings)), write(4, ALL)]
+        elif what == 3:
+            records += [read(1), read(32 + chance.randrange(16)), read(5), read(6)]
+        elif what == 4:
+            records += [write(1, chance.getrandbits(6)), read(1), write(1, 1)]
+        else:
+            records.append(write(chance.choice([5, 6])))
+    return records
+
+
 def step_and_note(slow, each, met):
-    """One step of the slow model, and what it meets of the slow clock."""
-    period, reply = slow.slow_period, slow.step(each)
+    """One step of the slow model, and what it meets of the slow clock, of
+    losses and of waits."""
+    period, write_wait, reply = slow.slow_period, slow.settings[2], slow.step(each)
+    since = (slow.last_reset, slow.slow_period)
     if each[0] == 0 and reply == (0, 0):
         met["hardware reset", period, slow.slow_period] += 1
+        met["reset under write wait" if write_wait else "reset under discard", since] += 1
     elif each[:2] == bytes([1, 0]) and reply == (0, 0):
         met["software reset", period] += 1
+        met["reset under write wait" if write_wait else "reset under discard", since] += 1
+    elif reply[0] == 8:
+        met["loss", since] += 1
+    elif reply[0] == 10 and each[0] == 1:
+        met["wait of a trigger", since] += 1
+        if not slow.chosen:
+            met["wait of a trigger by default", since] += 1
     elif each[0] == 3 and reply == (0, 0):
         phase = slow.ticks_since_reset % period
         if phase in (period - 1, 0, 1):
@@ -1113,8 +1247,8 @@ def step_and_note(slow, each, met):
 
 def random_scripts():
     seen, met = set(), collections.Counter()
-    for seed in range(600):
-        some_records = random_records if seed < 300 else speed_records
+    for seed in range(1200):
+        some_records = [random_records, speed_records, room_records, room_records][seed // 300]
         records = some_records(random.Random(seed), 300)
         slow = Slow()
         want = [step_and_note(slow, each, met) for each in records]
@@ -1125,6 +1259,14 @@ def random_scripts():
     for period in (10, 100):
         often.append(("software reset", period))
         often += [("ticks to phase", phase, period) for phase in (period - 1, 0, 1)]
+    # Losses and waits before any reset, and since each kind of reset.
+    resets = [(name, period) for name in ("hardware reset", "software reset")
+              for period in (10, 100)]
+    for since in [("no reset", 10)] + resets:
+        often += [("loss", since), ("wait of a trigger", since),
+                  ("wait of a trigger by default", since)]
+    for since in resets:
+        often += [("reset under discard", since), ("reset under write wait", since)]
     for what in often:
         check("random scripts often meet %s %s" % (what[0], what[1:]), met[what] >= 500, True)
 
@@ -1146,6 +1288,7 @@ def main():
         counters()
         slow_clock()
         triggers()
+        wait_by_default()
         record_format()
         random_scripts()
         long_input()
