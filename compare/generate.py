@@ -16,6 +16,11 @@ a hardware or software reset. A hardware reset chooses the slow clock's tenth or
 hundredth, one as often as the other, so about every second one changes the
 speed.
 
+Either reset leaves write wait set, as it is on a fresh chip. Often triggers run
+out of room before anything is written to CSR bits 2 and 3, and wait; then bit 3
+chooses discard, so that triggers are lost, and bit 2 write wait again. About
+every third reset finds discard set.
+
     queue      triggers, sends and looks in balance, full queues, losses, waits
     triggers   the same with many triggers: full for most of the time
     sends      the same with many sends: drained until reply 5 again and again
@@ -173,6 +178,7 @@ class Maker:
         self.draw = splitmix64(seed)
         self.out = bytearray()
         self.guess_hard_reset(TENTH)
+        self.begun = False  # whether a stretch was made
         self.modes = self.chosen_modes()
 
     # ---- the guess ----
@@ -186,6 +192,7 @@ class Maker:
         """What both resets do; the Timestamp and the slow clock's speed are the hardware reset's alone."""
         self.phase = 0        # Timestamp ticks since the last slow event, or since the reset
         self.sampling = False
+        self.write_wait = True
         self.filter = 0
         self.held = []        # words left of each held sample, oldest first
         self.held_kinds = []  # beside it: whether it is a Resource sample
@@ -221,6 +228,10 @@ class Maker:
             self.sampling = False
         elif data & 1:
             self.sampling = True
+        if data & 8:
+            self.write_wait = False
+        elif data & 4:
+            self.write_wait = True
 
     def guess(self, kind, address, lines, data):
         """Follow any record whose fourth byte is zero."""
@@ -331,8 +342,45 @@ class Maker:
     def open_up(self):
         """Sampling on and filters open, with a mixture of the other settings."""
         number = self.draw()
-        self.put_csr(1 | (0, 4, 8, 4)[number & 3] | (0, 16, 32, 16)[number >> 2 & 3])
+        self.put_csr(1 | (0, 8, 8, 4)[number & 3] | (0, 16, 32, 16)[number >> 2 & 3])
         self.put_filter(0xFFFF if number & 0x30 else number >> 16)
+
+    def fill_up(self, number):
+        """Triggers until some lack room, under the setting in force and then mostly under the other one too."""
+        if not (self.sampling and self.filter == 0xFFFF):
+            # CSR bits 2 and 3 stay out of it: after a reset, the setting that it left is in force.
+            self.put_csr((0x01, 0x11, 0x21, 0xC1)[number & 3])
+            self.put_filter(0xFFFF)
+        # The shadows get busy, the queue full, or both.
+        if number & 12 and not self.busy:
+            self.put_trigger(RESOURCE + (number >> 16 & 15), 1 << (number >> 20 & 7), number >> 16)
+        if number & 12 != 4:
+            while len(self.held) < PLACES:
+                step = self.draw()
+                self.put_trigger(TRACE + (step & 15), 1 << (step >> 4 & 7), step >> 7)
+        self.put_without_room(number >> 24)
+        for turn in range((0, 1, 1, 2)[number >> 4 & 3]):
+            # Discard after write wait, write wait after discard.
+            number >>= 6
+            self.put_csr(((0x08, 0x09, 0x0C, 0x28) if self.write_wait else (0x04, 0x05, 0x14, 0x24))[number & 3])
+            self.put_without_room(number >> 24)
+
+    def put_without_room(self, number):
+        """One to four triggers with the queue full or the shadows busy, and what flags and counts show then."""
+        for turn in range(1 + (number & 3)):
+            step = self.draw()
+            resource = len(self.held) < PLACES or step & 1
+            self.put_trigger((RESOURCE if resource else TRACE) + (step >> 1 & 15), 1 << (step >> 5 & 7), step >> 8)
+        self.put_read(CSR)
+        self.put_read(OVERRUN if number & 4 else WAIT)
+
+    def fill_between_resets(self, hardware):
+        """A reset, triggers that lack room after it, and a reset that empties the queue, once or twice."""
+        self.put_reset(hardware)
+        for turn in range(1 + (self.draw() & 1)):
+            number = self.draw()
+            self.fill_up(number)
+            self.put_reset(number >> 60 & 1)
 
     def put_looks(self, number):
         """One to four reads that show the state."""
@@ -413,7 +461,9 @@ class Maker:
                 if number & 0x60:
                     if number & 0x80:
                         self.put_read(CSR)
-                    if number & 0x700:
+                    if number >> 40 & 3 == 0:
+                        self.fill_up(draw())
+                    elif number & 0x700:
                         self.open_up()
                     self.put_looks(number >> 16)
             elif choice < looks:
@@ -532,7 +582,10 @@ class Maker:
             elif choice == 30:
                 self.put_bad()
             elif number & 1:
-                self.put_reset(number & 2)
+                if number >> 40 & 1:
+                    self.fill_between_resets(number & 2)
+                else:
+                    self.put_reset(number & 2)
                 self.put_write(ENABLE, 0xFFFF)
                 if number & 4:
                     self.put_write(MUX, MUX_DATA[number >> 3 & 7])
@@ -586,11 +639,16 @@ class Maker:
                     self.open_up()
                 self.put_trigger(RESOURCE + (number >> 32 & 15), LINES[number >> 36 & 63], number)
                 self.put_events(number >> 42)
+                if self.busy and number >> 54 & 1:
+                    self.put_without_room(number >> 55)
                 self.put_sends(max(1, sum(self.held)))
             if number >> 58 == 0:
                 self.put_bad()
             elif number >> 58 < 8:
-                self.put_reset(number >> 58 & 1)
+                if number >> 52 & 1:
+                    self.fill_between_resets(number >> 58 & 1)
+                else:
+                    self.put_reset(number >> 58 & 1)
 
     def wrap_each(self, number, few, software):
         """One counter after the other over its wrap, by single events of its own."""
@@ -636,10 +694,15 @@ class Maker:
                 self.put_sends(self.some_sends(number))
             elif choice == 14:
                 self.put_looks(number)
-                if not (self.sampling and self.filter):
+                if number >> 40 & 3 == 0:
+                    self.fill_up(draw())
+                elif not (self.sampling and self.filter):
                     self.open_up()
             elif number & 3 == 0:
-                self.put_reset(number & 4)
+                if number >> 40 & 1:
+                    self.fill_between_resets(number & 4)
+                else:
+                    self.put_reset(number & 4)
                 self.put_read(TIMESTAMP)
                 self.open_up()
                 self.put_write(ENABLE, number >> 8 | 1)
@@ -694,7 +757,10 @@ class Maker:
                 self.put_ticks(TICK_COUNTS[number & 63])
             elif choice < 44:
                 left = self.period - self.phase
-                self.put_reset(number & 1)
+                if number >> 40 & 15 == 0:
+                    self.fill_between_resets(number & 1)
+                else:
+                    self.put_reset(number & 1)
                 self.start_slow(number >> 1)
                 if number & 0x18 == 0:
                     # To where a slow event would have fallen without the reset.
@@ -728,6 +794,8 @@ class Maker:
                     self.open_up()
                 self.put_trigger(RESOURCE + (number & 15), 1 << (number >> 4 & 7), number)
                 self.put_slow_event(number >> 7)
+                if self.busy and number >> 40 & 1:
+                    self.put_without_room(number >> 41)
                 if self.held:
                     self.put_sends(sum(self.held))
             elif choice < 58:
@@ -780,6 +848,8 @@ class Maker:
                 self.put_looks(number >> 2)
                 if number & 0xF00 == 0:
                     self.put_bad()
+                elif number & 0xF00 == 0x100:
+                    self.fill_up(draw())
 
     def sweep(self, goal):
         draw = self.draw
@@ -834,6 +904,8 @@ class Maker:
             elif choice == 22:
                 if number >> 14 & 15 == 0:
                     self.put_reset(number >> 18 & 1)
+                    if number >> 40 & 1:
+                        self.fill_up(draw())
                 elif number >> 14 & 7 == 1:
                     self.put_bad()
                 elif not (self.sampling and self.filter):
@@ -861,6 +933,8 @@ class Maker:
             out += record(kind, address, lines, zero, data)
             if zero == 0:
                 self.guess(kind, address, lines, data)
+                if kind == RESET and data <= HUNDREDTH and number >> 55 & 3 == 0:
+                    self.fill_up(draw())
 
     def noise(self, goal):
         draw = self.draw
@@ -921,6 +995,12 @@ class Maker:
         amount = 200 + (spread * (600 if mode == self.noise else 2800) >> 32)
         if number >> 60 < 3:
             self.put_reset(number >> 60 == 0)
+            if number >> 48 & 1:
+                self.fill_up(self.draw())
+        elif not self.begun and number >> 48 & 3:
+            # The start of a file: a fresh chip.
+            self.fill_up(self.draw())
+        self.begun = True
         mode(amount * RECORD_LENGTH)
         # What a last step added beyond the amount is kept, so that the guess stays right.
         if mode not in (self.near, self.noise):

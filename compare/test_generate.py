@@ -41,6 +41,22 @@ READABLE = {1, 2, 4, 5, 6, 8, 11, *range(16, 24), *range(32, 48)}
 EVENT_KINDS = ("slow clock", "external", "software", "node clock")
 PERIODS = {0: 10, 1: 100}  # Timestamp ticks from one slow event to the next, for each good data of a hardware reset
 SPEEDS = {10: "tenth", 100: "hundredth"}
+FLAGS = {0: "no flag", 0x100: "flag 8 alone", 0x200: "flag 9 alone", 0x300: "both flags"}
+# Why a trigger lacks room, the last reset before it, and what became of the setting for such triggers since.
+REASONS = ("full queue", "busy shadows", "both reasons")
+FRESH = "fresh start"
+RESETS = ("hardware reset to the tenth", "hardware reset to the hundredth",
+          "software reset at the tenth", "software reset at the hundredth")
+LEFT_ALONE, DISCARD, WAIT_AGAIN, WAIT = "left alone", "discard chosen", "write wait chosen again", "write wait chosen"
+
+
+def left_alone(reset, found):
+    """The setting as a reset left it that found write wait or discard set."""
+    return "%s since the %s that found %s" % (LEFT_ALONE, reset, found)
+
+
+def chosen(setting, reset):
+    return "%s since the %s" % (setting, reset)
 
 
 class Follower:
@@ -60,29 +76,44 @@ class Follower:
     def fresh(self):
         self.timestamp = 0
         self.period = 10
-        self.reset()
+        self.reset(FRESH, None)
 
-    def reset(self):
-        self.sampling = self.write_wait = self.read_wait = False
+    def reset(self, name, found):
+        self.last_reset, self.found = name, found
+        self.setting = LEFT_ALONE
+        self.sampling = self.read_wait = False
+        self.write_wait = True
         self.filter = self.mux = self.enabled = self.phase = 0
         self.counters = [0] * 16
         self.slow_counted = [0] * 16  # the slow events in each counter
-        self.held = []  # words left and whether it is a Resource sample, oldest first
+        self.held = []  # words left, whether it is a Resource sample, and its lost mark, oldest first
         self.lost_mark = False
+        self.overrun = self.wait = self.flags = 0
+        self.waited = False  # whether a trigger was told to wait since the last sample taken
         self.ended = None  # where the last ticks ended, if that was beside a slow event and only reads came since
 
     def speed(self):
         return SPEEDS[self.period]
 
     def busy(self):
-        return any(resource for _, resource in self.held)
+        return any(resource for _, resource, _ in self.held)
+
+    def wait_or_discard(self):
+        return "write wait" if self.write_wait else "discard"
+
+    def setting_since(self):
+        """What became of the setting for triggers that lack room since the last reset."""
+        if self.setting == LEFT_ALONE and self.found:
+            return left_alone(self.last_reset, self.found)
+        return chosen(self.setting, self.last_reset)
 
     def note_reset(self, name):
         if self.held:
-            left, resource = self.held[0]
+            left, resource, _ = self.held[0]
             if left < (80 if resource else 16):
                 self.seen["%s reset in the middle of a %s sample" % (name, "Resource" if resource else "Trace")] += 1
         self.seen["%s reset at the %s" % (name, self.speed())] += 1
+        self.seen["%s reset finds %s" % (name, self.wait_or_discard())] += 1
         if self.phase:
             self.seen["%s reset at the %s between slow events" % (name, self.speed())] += 1
 
@@ -93,8 +124,9 @@ class Follower:
         if before != now and self.timestamp:
             # The clock has run at the speed before.
             self.seen["change of speed in mid-run, %s to %s" % (before, now)] += 1
-        self.fresh()
+        self.timestamp = 0
         self.period = PERIODS[data]
+        self.reset("hardware reset to the " + now, self.wait_or_discard())
 
     def kind_of_counter(self, index):
         return (self.mux >> (32 + index) & 1) * 2 + (self.mux >> index & 1)
@@ -126,18 +158,25 @@ class Follower:
         busy = resource and self.busy()
         if full or busy:
             reason = "both reasons" if full and busy else "full queue" if full else "busy shadows"
+            name = "trigger %s, %s" % ("waits" if self.write_wait else "lost", reason)
+            self.seen[name] += 1
+            self.seen["%s, %s" % (name, self.setting_since())] += 1
             if self.write_wait:
-                self.seen["trigger waits, " + reason] += 1
+                self.wait += 1
+                self.waited = True
                 return 10
-            self.seen["trigger lost, " + reason] += 1
+            self.overrun += 1
+            self.flags |= full << 8 | busy << 9
             self.lost_mark = True
             return 8
         if self.lost_mark:
             self.seen["sample with the lost mark"] += 1
-            self.lost_mark = False
+        elif self.waited:
+            self.seen["sample without the lost mark after a trigger that waited"] += 1
         if self.timestamp >> 40:
             self.seen["sample with a Timestamp above 2^40"] += 1
-        self.held.append([80 if resource else 16, resource])
+        self.held.append([80 if resource else 16, resource, self.lost_mark])
+        self.lost_mark = self.waited = False
         if len(self.held) == 8:
             self.seen["queue gets full, %d Resource sample held" % self.busy()] += 1
         return 0
@@ -152,8 +191,12 @@ class Follower:
             return 3
         if address == 0:
             self.note_reset("software")
-            self.reset()
+            self.reset("software reset at the " + self.speed(), self.wait_or_discard())
         elif address == 1:
+            if data & 8:
+                self.setting = DISCARD
+            elif data & 4:
+                self.setting = WAIT_AGAIN if self.setting in (DISCARD, WAIT_AGAIN) else WAIT
             for bit, name in ((0, "sampling"), (2, "write_wait"), (4, "read_wait")):
                 if data >> bit & 3 == 3:
                     self.seen["CSR bits %d and %d together" % (bit, bit + 1)] += 1
@@ -166,6 +209,10 @@ class Follower:
                     self.seen["CSR bit %d written at the %s" % (bit, self.speed())] += 1
         elif address == 4:
             self.filter = data & 0xFFFF
+        elif address == 5:
+            self.wait = 0
+        elif address == 6:
+            self.overrun = self.flags = 0
         elif address == 8:
             self.mux = data & 0x0000FFFF_0000FFFF
         elif address == 10:
@@ -189,9 +236,19 @@ class Follower:
             return 2
         if address not in READABLE:
             return 3
-        if 32 <= address < 48:
+        if address == 1:
+            self.seen["CSR read, " + self.setting_since()] += 1
+            self.seen["CSR read with " + FLAGS[self.flags]] += 1
+        elif address == 5 and self.wait:
+            self.seen["Wait Counter read above 0, " + self.setting] += 1
+        elif address == 6 and self.overrun:
+            self.seen["Overrun Counter read above 0, " + self.setting] += 1
+        elif 32 <= address < 48:
             if self.busy():
-                return 10 if self.read_wait else 11
+                if self.read_wait:
+                    self.wait += 1
+                    return 10
+                return 11
             self.seen["counter read with the shadows free"] += 1
             index = address - 32
             if self.counters[index] and self.slow_counted[index]:
@@ -203,9 +260,12 @@ class Follower:
     def send(self):
         if not self.held:
             return 5
+        left, resource, marked = self.held[0]
+        if marked and left == (80 if resource else 16):
+            self.seen["header sent with the lost mark"] += 1
         self.held[0][0] -= 1
-        if self.held[0][0] == 0:
-            self.seen["sample sent whole, " + ("Resource" if self.held[0][1] else "Trace")] += 1
+        if left == 1:
+            self.seen["sample sent whole, " + ("Resource" if resource else "Trace")] += 1
             self.held.pop(0)
         return 0
 
@@ -265,6 +325,7 @@ class Follower:
                 self.bad_reset_data[data] += 1
                 if self.phase:
                     self.seen["refused hardware reset at the %s between slow events" % self.speed()] += 1
+                self.seen["refused hardware reset finds " + self.wait_or_discard()] += 1
             reply = 9
         else:
             if self.ignored_bits(kind, address, lines, data):
@@ -308,10 +369,10 @@ check([draw(), draw()] == [0xE220A8397B1DCDAF, 0x6E789E6AA1B965F4], "the first n
 
 # A change of the generator changes these; nothing else does.
 DIGESTS = {
-    1: "4e98a05954b8a02b01ab8b2e5a26a73027d3839d1be6ddfadff0cabe2808f9c9",
-    2: "3680208f1114fe929f23f09a9bfc01bd851682bb99553e1cc4d0b483d1d60b90",
-    15: "9881c1aa6d34e075819c439ecbf430b16c9868f1103fc1636c74f8db20d80405",
-    2**64 - 1: "b1c29c03bd51bdc86c517e31782e5116996b1d57780c7ebe2bf79df96bd6e843",
+    1: "88a002fa6bd61a72fd51ae263540cd84d9b8b23241822aa006151b1ddaf695ff",
+    2: "5800df1f4091121f063cb2a3e77f17342cf99802693321845929eec530ff63e0",
+    15: "b63dca69774f850f40c137468ac20557fcc69cc7a1882a7fb70a238e9e931fbd",
+    2**64 - 1: "49ec4dc25f3632f31517ac8b10033b6a5dd05b39d8b6bef0f4e53a8ac094f4e2",
 }
 for seed, digest in DIGESTS.items():
     found = hashlib.sha256(file_of(seed, 50_000)).hexdigest()
@@ -368,9 +429,10 @@ for seed in range(SEEDS):
             follower.follow(*fields)
             followed += 1
         check((maker.sampling, maker.filter, maker.held, maker.held_kinds, maker.busy, maker.timestamp)
-              == (follower.sampling, follower.filter, [left for left, _ in follower.held],
-                  [resource for _, resource in follower.held], follower.busy(), follower.timestamp),
+              == (follower.sampling, follower.filter, [left for left, _, _ in follower.held],
+                  [resource for _, resource, _ in follower.held], follower.busy(), follower.timestamp),
               "the guess after a stretch of seed %d" % seed)
+        check(maker.write_wait == follower.write_wait, "the guess of write wait after a stretch of seed %d" % seed)
         check((maker.period, maker.phase) == (follower.period, follower.phase),
               "the guess of the slow clock after a stretch of seed %d" % seed)
     replies_by_seed.append(follower.replies - before)
@@ -415,6 +477,9 @@ OCCASIONS = [
     "bad record, kind", "bad record, fourth byte", "bad record, Timestamp tick count",
     "bad record, node tick count", "bad record, event mask", "bits that must be ignored",
     "bad record, reset data",
+    "refused hardware reset finds write wait", "refused hardware reset finds discard",
+    "sample without the lost mark after a trigger that waited", "header sent with the lost mark",
+    "CSR read with flag 8 alone", "CSR read with flag 9 alone", "CSR read with both flags",
     "change of speed in mid-run, tenth to hundredth", "change of speed in mid-run, hundredth to tenth",
 ]
 for speed in SPEEDS.values():
@@ -436,20 +501,48 @@ for speed in SPEEDS.values():
         ended = "ticks end %s a slow event at the %s" % (place, speed)
         OCCASIONS += [ended, "slow counter read where " + ended]
 OCCASIONS += ["counter %d wraps" % index for index in range(16)]
+# After each reset at each speed: write wait left alone, whatever the reset found; discard; write wait again.
+for reset in RESETS:
+    waiting = [left_alone(reset, "write wait"), left_alone(reset, "discard"), chosen(WAIT_AGAIN, reset)]
+    discarding = chosen(DISCARD, reset)
+    OCCASIONS += ["CSR read, " + setting for setting in (*waiting, discarding)]
+    for reason in REASONS:
+        OCCASIONS += ["trigger waits, %s, %s" % (reason, setting) for setting in waiting]
+        OCCASIONS.append("trigger lost, %s, %s" % (reason, discarding))
+OCCASIONS += [
+    "Wait Counter read above 0, " + LEFT_ALONE,  # nothing is lost there
+    "Wait Counter read above 0, " + DISCARD, "Overrun Counter read above 0, " + DISCARD,
+    "Wait Counter read above 0, " + WAIT_AGAIN, "Overrun Counter read above 0, " + WAIT_AGAIN,
+]
 for occasion in OCCASIONS:
     check(follower.seen[occasion] >= 20, "often enough: " + occasion)
+# A fresh start comes once in a file.
+for reason in REASONS:
+    occasion = "trigger waits, %s, left alone since the fresh start" % reason
+    check(follower.seen[occasion] >= SEEDS // 2, "often enough: " + occasion)
 
-# Each mode with hardware resets changes the speed in both directions.
-for name in ("queue", "resets", "counters", "wraps", "stamps", "slow", "mixed", "near"):
+# Each mode with triggers lets some wait and loses some. Each with hardware resets changes the speed in both directions,
+# and has triggers wait after resets that found discard set, with nothing written to CSR bits 2 and 3 between.
+WITH_RESETS = ("queue", "resets", "counters", "wraps", "stamps", "slow", "mixed", "near")
+for name in (*WITH_RESETS, "triggers", "sends", "registers", "sweep"):
     follower = Follower()
     maker = generator.Maker(5)
     getattr(maker, name)(12 * 20_000)
     for fields in records_of(bytes(maker.out)):
         follower.follow(*fields)
-    changes = [follower.seen["change of speed in mid-run, " + change]
-               for change in ("tenth to hundredth", "hundredth to tenth")]
-    print("changes of speed in 20000 records of %s: %d and %d" % (name, *changes))
-    check(min(changes) >= 2, "the mode %s changes the speed" % name)
+    waits = sum(follower.seen["trigger waits, " + reason] for reason in REASONS)
+    lost = sum(follower.seen["trigger lost, " + reason] for reason in REASONS)
+    print("20000 records of %s: %d triggers wait, %d are lost" % (name, waits, lost))
+    check(min(waits, lost) >= 50, "the mode %s has triggers wait and loses some" % name)
+    if name in WITH_RESETS:
+        changes = [follower.seen["change of speed in mid-run, " + change]
+                   for change in ("tenth to hundredth", "hundredth to tenth")]
+        print("  changes of speed: %d and %d" % tuple(changes))
+        check(min(changes) >= 2, "the mode %s changes the speed" % name)
+        waits = sum(follower.seen["trigger waits, %s, %s" % (reason, left_alone(reset, "discard"))]
+                    for reason in REASONS for reset in RESETS)
+        print("  triggers that wait, %s since a reset that found discard: %d" % (LEFT_ALONE, waits))
+        check(waits >= 5, "the mode %s has triggers wait after resets that found discard" % name)
 
 # ---- the wrap of the Timestamp at 2^56, in a very long file ----
 

@@ -38,8 +38,9 @@ COUNTING = record(WRITE, 8, 0, 0x0000AAAA0000FFFF) + record(WRITE, 11, 0, 0xFFFF
 
 
 def settings():
-    """Sampling on, every level passes, half of the counters on each pair of kinds, all enabled, eight sources."""
-    yield record(WRITE, 1, 0, 1)
+    """Sampling on, discard, every level passes, half of the counters on each pair of kinds, all enabled, eight sources."""
+    # Discard is chosen, so that builds with and without write wait after a reset lose the same triggers.
+    yield record(WRITE, 1, 0, 9)
     yield record(WRITE, 4, 0, 0xFFFF)
     yield record(WRITE, 8, 0, 0x0000FF000000F0F0)
     yield record(WRITE, 11, 0, 0xFFFF)

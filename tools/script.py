@@ -24,6 +24,9 @@ of the line, and blank lines are ignored. Capital letters count as small ones.
 SPEED is the slow clock's, until the next hardware reset: `tenth` or `hundredth`
 of the Timestamp clock.
 
+After either reset write wait is set, as on a fresh chip: a script that wants
+lost triggers writes CSR bit 3 first, as `write csr 9` does.
+
 LINES is `line N [N ...]`, each N a line from 0 to 7, or `lines MASK` with the
 whole byte: `line 0` and `lines 1` are the same, and so are `line 0 2` and
 `lines 5`. A write without LINES has the lines byte 0.
