@@ -15,16 +15,16 @@ use Rattle.samples.specs.declared.edition.Edition.{Edition}
 use Rattle.samples.specs.declared.edition.Edition.the-variants.{First, Second}
 use Rattle.samples.specs.declared.sample.Sample.{Sample}
 use Rattle.samples.proofs.SampleLaws.{sample-length}
-use Rattle.history.specs.Stream.{heldOf, lengthOf, totalOf, wordsOfAll}
+use Rattle.history.specs.Stream.{Every, heldOf, lengthOf, totalOf, wordsOfAll}
 
 -- each sample has sixteen counters
 abbrev pub Sixteen : List Sample → Type 0
-Sixteen [] = Unit {0}
-Sixteen (s ∷ ss) = (length (s .counters) ≡ 16) × Sixteen ss
+Sixteen ss = Every (λ s. length (s .counters) ≡ 16) ss
 
-pub sixteen-more : (ss : List Sample) (s : Sample) → Sixteen ss → length (s .counters) ≡ 16 → Sixteen (ss ++ (s ∷ []))
-sixteen-more [] s h e = (e, tt)
-sixteen-more (t ∷ ss) s h e = (h .0, sixteen-more ss s (h .1) e)
+-- one sample more
+pub every-more : (P : Sample → Type 0) (ss : List Sample) (s : Sample) → Every P ss → P s → Every P (ss ++ (s ∷ []))
+every-more P [] s h e = (e, tt)
+every-more P (t ∷ ss) s h e = (h .0, every-more P ss s (h .1) e)
 
 -- how many words of the first held sample are among the n sent
 unfoldable pub offsetOf : Edition → List Sample → ℕ → ℕ

@@ -23,7 +23,7 @@ use Rattle.chip.proofs.Choice.{choice-stays}
 use Rattle.chip.proofs.Replies.{waiting-never-8}
 use Rattle.history.specs.Ledger.{Entry, Fate, Ledger, byFate, choiceFrom, discardFrom, fateIn, fateNumber, ledgerFrom, ledgerOf, lineIn, noCounter, resetAt, tells, entryOf, triggered, written}
 use Rattle.history.specs.Run.{chipOf, comeWithin, runFrom, sentFrom, sentOf, toCome}
-use Rattle.history.specs.Stream.{totalOf, wordsOfAll}
+use Rattle.history.specs.Stream.{Every, totalOf, wordsOfAll}
 use Rattle.history.proofs.Addresses.{range-trigger}
 use Rattle.history.proofs.Agrees.{Agrees, controlOf, for-inside}
 use Rattle.history.proofs.CountLaws.{value-at, wrapped}
@@ -31,7 +31,7 @@ use Rattle.history.proofs.HeldLaws.{words-left, words-total}
 use Rattle.history.proofs.HoldsLaws.{holds-left}
 use Rattle.history.proofs.Steps.{agrees-step, reset-good, reset-record}
 use Rattle.history.proofs.StreamLaws.{come-words, stream-step}
-use Rattle.history.proofs.Unlost.{Unlost, list-unlost}
+use Rattle.history.proofs.Unlost.{Unlost, list-unlost, reset-unlost}
 
 -- ---- the fold
 
@@ -140,25 +140,28 @@ choice-said ops = go ops fresh
 pub ledger-choice : (ops : List Operation) → ledgerOf ops .hundredth ≡ choiceFrom false ops
 ledger-choice ops = sym (ap (λ (c : Chip). c .switches .hundredth) (agrees ops .is)) ∙ choice-said ops
 
--- ---- 8. Document 02, Wish 7: where no write at 1 has asked for discard since the last reset, write wait is set, no trigger is lost next, and none
--- was: neither counted nor flagged nor marked
+-- ---- 8. Document 02, Wish 7: where no write at 1 has asked for discard since the last reset, write wait is set and no trigger is lost next; none
+-- was, neither counted nor flagged nor marked, and no sample taken since has the lost mark, bit 4 of its header
 
 module _ (ops : List Operation) (e : discardFrom false ops ≡ false) where
   unlost : Unlost (ledgerOf ops)
-  unlost = list-unlost ops false (resetAt 0 false) (λ f. (refl, (refl, (refl, (refl, refl))))) e
+  unlost = list-unlost ops false (resetAt 0 false) (λ f. reset-unlost 0 false) e
 
   of-control : {A : Type 0} (f : Control → A) → f (chipOf ops .control) ≡ f (controlOf (ledgerOf ops))
   of-control f = ap (λ (c : Chip). f (c .control)) (agrees ops .is)
 
   pub waits-unless-asked : chipOf ops .control .writewait ≡ true
-  waits-unless-asked = of-control (λ k. k .writewait) ∙ unlost .0
-
-  pub nothing-lost : (chipOf ops .control .overrun ≡ 0) × ((chipOf ops .control .flagfull ≡ false) × ((chipOf ops .control .flagbusy ≡ false) × (chipOf ops .control .lost ≡ false)))
-  nothing-lost =
-      (of-control (λ k. k .overrun) ∙ ap wrapped (unlost .1 .0), (of-control (λ k. k .flagfull) ∙ unlost .1 .1 .0, (of-control (λ k. k .flagbusy) ∙ unlost .1 .1 .1 .0, of-control (λ k. k .lost) ∙ unlost .1 .1 .1 .1)))
+  waits-unless-asked = of-control (λ k. k .writewait) ∙ unlost .waits
 
   pub never-8 : (op : Operation) → eqb (step op (chipOf ops) .number) 8 ≡ false
   never-8 op = waiting-never-8 op (chipOf ops) waits-unless-asked
+
+  pub nothing-lost : let k = chipOf ops .control in (k .overrun ≡ 0) × ((k .flagfull ≡ false) × ((k .flagbusy ≡ false) × (k .lost ≡ false)))
+  nothing-lost =
+      (overrun-counts ops ∙ ap wrapped (unlost .none), (of-control (λ k. k .flagfull) ∙ unlost .unflagged .0, (of-control (λ k. k .flagbusy) ∙ unlost .unflagged .1, of-control (λ k. k .lost) ∙ unlost .unmarked)))
+
+  pub none-marked : Every (λ s. s .header < 16) (ledgerOf ops .taken)
+  none-marked = unlost .headers
 
 -- ---- 9. The chip never answers 15 on such a list
 

@@ -1,23 +1,35 @@
 -- Document 02, Wish 7: where a list didn't ask for discard since its last reset, the ledger has write wait set and no trigger lost. By the cases of
 -- the ledger's operations, and a fold. Assumes nothing.
-use Prim.Native.Nat.{ℕ, _-_, _/_, _%_}
+use Prim.Native.Nat.{ℕ, _+_, _-_, _/_, _%_, _<_}
 use native.Mathlib.Omega.{arith}
 use mathlib.Core.Path.{_≡_, refl, sym, ap, _∙_, subst}
 use mathlib.Core.Bool.{Bool, true, false, cond, _&&_, _||_, false≢true}
 use mathlib.Core.List.{List, [], _∷_}
 use lib.Dec.{eqb, leb, ltb}
-use borrow.Author.Tests.{eq-eqb, eqb-true, eqb-false}
+use borrow.Author.Tests.{eq-eqb, eqb-true, eqb-false, ltb-true}
+use Rattle.samples.specs.declared.sample.Sample.{Sample}
 use Rattle.chip.specs.Operation.{Operation, opReset, opWrite, opRead, opTicks, opNodes, opEvents, opSend, opFill}
 use Rattle.chip.proofs.ChipLaws.{either}
-use Rattle.history.specs.Ledger.{Entry, Fate, Ledger, afterFate, byRange, configured, counterRead, discardFrom, entryOf, fateIn, held, isSet, left, ledgerFrom, lineIn, readIn, readLow, tells, triggered, turned, vacant, wasFiltered, wasLost, wasOff, wasTaken, wasTold, withSettings, written, writtenLow}
-use Rattle.history.specs.Stream.{anyHeld, isBlocked, isFull}
+use Rattle.history.specs.Ledger.{Entry, Fate, Ledger, afterFate, byFate, byRange, configured, counterRead, discardFrom, entryOf, fateIn, held, isSet, left, ledgerFrom, lineIn, readIn, readLow, resetAt, sampleIn, tells, triggered, turned, vacant, wasLost, wasTold, withSettings, written, writtenLow}
+use Rattle.history.specs.Stream.{Every, anyHeld, isBlocked, isFull}
+use Rattle.history.proofs.HeldLaws.{every-more}
 
--- write wait is set, and no trigger is counted as lost, nor flagged or marked
+-- write wait is set, no trigger is counted as lost, flagged or marked, and no sample taken has the lost mark, header bit 4
+pub record NoneLost (writewait : Bool) (lost : ℕ) (flagfull flagbusy mark : Bool) (taken : List Sample) : Type 0 where
+  pub waits : writewait ≡ true
+  pub none : lost ≡ 0
+  pub unflagged : (flagfull ≡ false) × (flagbusy ≡ false)
+  pub unmarked : mark ≡ false
+  pub headers : Every (λ s. s .header < 16) taken
+
+-- so of a ledger
 abbrev pub Unlost : Ledger → Type 0
-Unlost l =
-    (l .settings .writewait ≡ true) × ((l .errors .lost ≡ 0) × ((l .errors .flagfull ≡ false) × ((l .errors .flagbusy ≡ false) × (l .errors .mark ≡ false))))
+Unlost l = NoneLost (l .settings .writewait) (l .errors .lost) (l .errors .flagfull) (l .errors .flagbusy) (l .errors .mark) (l .taken)
 
--- so after an operation
+pub reset-unlost : (clock : ℕ) (hundredth : Bool) → Unlost (resetAt clock hundredth)
+reset-unlost clock hundredth = record { waits = refl; none = refl; unflagged = (refl, refl); unmarked = refl; headers = tt }
+
+-- and of what an operation leaves
 record After (e : Entry) : Type 0 where
   is : Unlost (e .ledger)
 
@@ -36,14 +48,28 @@ pair-on bits e = go (eqb (bits / 4 % 4) 0) refl
         eq-eqb (bits / 4 % 4) 1 (omega arith)
 
 module _ (l : Ledger) (u : Unlost l) where
-  fate-unlost : (resource : Bool) (level line bits : ℕ) → Unlost (afterFate (fateIn resource level l) resource line bits l)
+  header-unmarked : (resource : Bool) (line bits : ℕ) → line < 8 → sampleIn resource line bits l .header < 16
+  header-unmarked resource line bits h = subst (λ (b : Bool). line + cond resource 8 0 + cond b 16 0 < 16) (sym (u .unmarked)) (go resource)
+    where
+      go : (r : Bool) → line + cond r 8 0 + 0 < 16
+      go true = omega arith
+      go false = omega arith
+
+  -- a trigger is never lost: with no room it is told to wait
+  fate-unlost : (resource : Bool) (level line bits : ℕ) → line < 8 → Unlost (afterFate (fateIn resource level l) resource line bits l)
   unfolding afterFate
-  fate-unlost resource level line bits =
+  fate-unlost resource level line bits h =
       either P (l .settings .sampling) _ _
       (either P (isSet (l .settings .filter) level) _ _
       (either P (isFull (held l) || isBlocked resource (held l)) _ _
-      (subst (λ (b : Bool). P (cond b wasTold wasLost)) (sym (u .0)) u)
-      (u .0, (u .1 .0, (u .1 .1 .0, (u .1 .1 .1 .0, refl)))))
+      (subst (λ (b : Bool). P (cond b wasTold wasLost)) (sym (u .waits)) u)
+      (record {
+        waits = u .waits;
+        none = u .none;
+        unflagged = u .unflagged;
+        unmarked = refl;
+        headers = every-more (λ s. s .header < 16) (l .taken) (sampleIn resource line bits l) (u .headers) (header-unmarked resource line bits h);
+      }))
       u)
       u
     where
@@ -52,24 +78,37 @@ module _ (l : Ledger) (u : Unlost l) where
 
   trigger-unlost : (resource : Bool) (level bits lines : ℕ) → After (triggered resource level bits lines l)
   unfolding triggered
-  trigger-unlost resource level bits lines = either After (ltb (lineIn lines) 8) _ _ (so _ (fate-unlost resource level (lineIn lines) bits)) (so _ u)
+  trigger-unlost resource level bits lines = go (ltb (lineIn lines) 8) refl
+    where
+      go : (b : Bool) → ltb (lineIn lines) 8 ≡ b → After (cond b (byFate (fateIn resource level l) resource (lineIn lines) bits l) (tells 4 0 l))
+      go true e = so _ (fate-unlost resource level (lineIn lines) bits (ltb-true (lineIn lines) 8 e))
+      go false e = so _ u
 
   -- a write below 16 that doesn't ask for discard
   low-unlost : (a bits : ℕ) → (eqb a 1 && isSet bits 3) ≡ false → After (writtenLow a bits l)
   unfolding writtenLow
   low-unlost a bits e =
-      either After (eqb a 0) _ _ (so _ (refl, (refl, (refl, (refl, refl)))))
+      either After (eqb a 0) _ _ (so _ (reset-unlost (l .clock) (l .hundredth)))
       (csr (eqb a 1) _ e
       (either After (eqb a 2) _ _ (so _ u)
       (either After (eqb a 4) _ _ (so _ u)
       (either After (eqb a 5) _ _ (so _ u)
-      (either After (eqb a 6) _ _ (so _ (u .0, (refl, (refl, (refl, u .1 .1 .1 .1)))))
+      (either After (eqb a 6) _ _
+      (so _ (record { waits = u .waits; none = refl; unflagged = (refl, refl); unmarked = u .unmarked; headers = u .headers }))
       (either After (eqb a 8) _ _ (so _ u)
       (either After (eqb a 10) _ _ (so _ u)
       (either After (eqb a 11) _ _ (so _ u) (so _ u)))))))))
     where
       csr : (b : Bool) (x : Entry) → (b && isSet bits 3) ≡ false → After x → After (cond b (tells 0 0 (withSettings (configured bits (l .settings)) l)) x)
-      csr true x f p = so _ (ap (turned (bits / 4 % 4)) (u .0) ∙ pair-on bits f, u .1)
+      csr true x f p =
+          so _
+          (record {
+            waits = ap (turned (bits / 4 % 4)) (u .waits) ∙ pair-on bits f;
+            none = u .none;
+            unflagged = u .unflagged;
+            unmarked = u .unmarked;
+            headers = u .headers;
+          })
       csr false x f p = p
 
   range-unlost : (a : ℕ) (trigger counter source register : Entry) → After trigger → After counter → After source → After register → After (byRange a l trigger counter source register)
@@ -88,32 +127,32 @@ module _ (l : Ledger) (u : Unlost l) where
   register-unlost : (a : ℕ) → After (readLow a l)
   unfolding readLow
   register-unlost a =
-      (either After (eqb a 1) _ _ (so _ u)
+      either After (eqb a 1) _ _ (so _ u)
       (either After (eqb a 2) _ _ (so _ u)
       (either After (eqb a 4) _ _ (so _ u)
       (either After (eqb a 5) _ _ (so _ u)
       (either After (eqb a 6) _ _ (so _ u)
       (either After (eqb a 8) _ _ (so _ u)
-      (either After (eqb a 11) _ _ (so _ u) (so _ u))))))))
+      (either After (eqb a 11) _ _ (so _ u) (so _ u)))))))
 
   read-unlost : (a : ℕ) → After (readIn a l)
   unfolding readIn
   read-unlost a = range-unlost a _ _ _ _ (so _ u) (counter-unlost (a - 32)) (so _ u) (register-unlost a)
 
 -- a write at 0 is a reset, whatever was
-reset-unlost : (a bits lines : ℕ) (l : Ledger) → eqb a 0 ≡ true → After (written a bits lines l)
+zero-unlost : (a bits lines : ℕ) (l : Ledger) → eqb a 0 ≡ true → After (written a bits lines l)
 unfolding written byRange vacant writtenLow
-reset-unlost a bits lines l e = subst (λ (n : ℕ). After (written n bits lines l)) (sym (eqb-true a 0 e)) (so _ (refl, (refl, (refl, (refl, refl)))))
+zero-unlost a bits lines l e = subst (λ (n : ℕ). After (written n bits lines l)) (sym (eqb-true a 0 e)) (so _ (reset-unlost (l .clock) (l .hundredth)))
 
 -- all operations: b says whether discard was asked for before them
 pub list-unlost : (ops : List Operation) (b : Bool) (l : Ledger) → (b ≡ false → Unlost l) → discardFrom b ops ≡ false → Unlost (ledgerFrom l ops)
 unfolding ledgerFrom discardFrom entryOf
 list-unlost [] b l u e = u e
-list-unlost (opReset hundredth ∷ ops) b l u e = list-unlost ops false _ (λ f. (refl, (refl, (refl, (refl, refl))))) e
+list-unlost (opReset hundredth ∷ ops) b l u e = list-unlost ops false _ (λ f. reset-unlost 0 hundredth) e
 list-unlost (opWrite address bits lines ∷ ops) b l u e = list-unlost ops _ _ (λ f. go (eqb address 0) refl b u f .is) e
   where
     go : (z : Bool) → eqb address 0 ≡ z → (p : Bool) → (p ≡ false → Unlost l) → cond z false (p || (eqb address 1 && isSet bits 3)) ≡ false → After (written address bits lines l)
-    go true is p v f = reset-unlost address bits lines l is
+    go true is p v f = zero-unlost address bits lines l is
     go false is true v f = absurd (false≢true (sym f))
     go false is false v f = write-unlost l (v refl) address bits lines f
 list-unlost (opRead address ∷ ops) b l u e = list-unlost ops b _ (λ f. read-unlost l (u f) address .is) e

@@ -24,6 +24,11 @@ unfoldable pub totalOf : Edition → List Sample → ℕ
 totalOf ed [] = 0
 totalOf ed (s ∷ ss) = lengthOf ed s + totalOf ed ss
 
+-- what is so of every sample of a list
+abbrev pub Every : (Sample → Type 0) → List Sample → Type 0
+Every P [] = Unit {0}
+Every P (s ∷ ss) = P s × Every P ss
+
 -- "A sample is held from its trigger until its last word is sent": of the samples taken, those not wholly among the n words sent
 unfoldable pub heldOf : Edition → List Sample → ℕ → List Sample
 heldOf ed [] n = []
