@@ -998,7 +998,7 @@ class Maker:
             if number >> 48 & 1:
                 self.fill_up(self.draw())
         elif not self.begun and number >> 48 & 3:
-            # The start of a file: a fresh chip.
+            # The start of a file: a fresh chip, unless a wrap of the Timestamp came first.
             self.fill_up(self.draw())
         self.begun = True
         mode(amount * RECORD_LENGTH)

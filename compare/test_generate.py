@@ -59,6 +59,11 @@ def chosen(setting, reset):
     return "%s since the %s" % (setting, reset)
 
 
+def still_off(setting, reset):
+    """Sampling or read wait, not written since a reset that found it on."""
+    return "%s not written since the %s that found it on" % (setting, reset)
+
+
 class Follower:
     """Follows records far enough to tell their replies, and counts what happens on the way."""
 
@@ -76,11 +81,13 @@ class Follower:
     def fresh(self):
         self.timestamp = 0
         self.period = 10
+        self.sampling = self.read_wait = False
         self.reset(FRESH, None)
 
     def reset(self, name, found):
         self.last_reset, self.found = name, found
         self.setting = LEFT_ALONE
+        self.found_on = [setting for setting, on in (("sampling", self.sampling), ("read wait", self.read_wait)) if on]
         self.sampling = self.read_wait = False
         self.write_wait = True
         self.filter = self.mux = self.enabled = self.phase = 0
@@ -197,6 +204,9 @@ class Follower:
                 self.setting = DISCARD
             elif data & 4:
                 self.setting = WAIT_AGAIN if self.setting in (DISCARD, WAIT_AGAIN) else WAIT
+            for bits, name in ((0x03, "sampling"), (0x30, "read wait")):
+                if data & bits and name in self.found_on:
+                    self.found_on.remove(name)
             for bit, name in ((0, "sampling"), (2, "write_wait"), (4, "read_wait")):
                 if data >> bit & 3 == 3:
                     self.seen["CSR bits %d and %d together" % (bit, bit + 1)] += 1
@@ -238,6 +248,8 @@ class Follower:
             return 3
         if address == 1:
             self.seen["CSR read, " + self.setting_since()] += 1
+            for setting in self.found_on:
+                self.seen["CSR read, " + still_off(setting, self.last_reset)] += 1
             self.seen["CSR read with " + FLAGS[self.flags]] += 1
         elif address == 5 and self.wait:
             self.seen["Wait Counter read above 0, " + self.setting] += 1
@@ -501,11 +513,13 @@ for speed in SPEEDS.values():
         ended = "ticks end %s a slow event at the %s" % (place, speed)
         OCCASIONS += [ended, "slow counter read where " + ended]
 OCCASIONS += ["counter %d wraps" % index for index in range(16)]
-# After each reset at each speed: write wait left alone, whatever the reset found; discard; write wait again.
+# After each reset at each speed: write wait left alone, whatever the reset found; discard; write wait again; sampling and read wait seen
+# off that were on.
 for reset in RESETS:
     waiting = [left_alone(reset, "write wait"), left_alone(reset, "discard"), chosen(WAIT_AGAIN, reset)]
     discarding = chosen(DISCARD, reset)
     OCCASIONS += ["CSR read, " + setting for setting in (*waiting, discarding)]
+    OCCASIONS += ["CSR read, " + still_off(setting, reset) for setting in ("sampling", "read wait")]
     for reason in REASONS:
         OCCASIONS += ["trigger waits, %s, %s" % (reason, setting) for setting in waiting]
         OCCASIONS.append("trigger lost, %s, %s" % (reason, discarding))

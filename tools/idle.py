@@ -318,7 +318,7 @@ VERSIONS = {
             ('crates/control/specs/Control.antt', 'writewait = true; readwait = false; flagfull = false;', 'writewait = false; readwait = false; flagfull = false;'),
             ('crates/control/proofs/FreshLaws.antt', '≡ 4', '≡ 0'),
             ('crates/chip/proofs/Resets.antt', '1 ∷ replicate 86 0', '0 ∷ replicate 86 0', 3),
-            ('crates/chip/proofs/Resets.antt', 'done 4', 'done 0', 4),
+            ('crates/chip/proofs/Resets.antt', 'done 4', 'done 0', 5),
         ], ['control', 'chip', 'marked'], [('history', 'reset-record')]),
 }
 

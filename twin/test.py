@@ -719,8 +719,8 @@ def triggers():
 
 
 def reset_chips():
-    """Wish 7: a fresh chip, and ways to a reset from busy chips of both speeds
-    under discard or write wait. Each is a name and its steps."""
+    """Wish 7: a fresh chip, and ways to a reset from chips of both speeds, busy
+    or not, under discard or write wait. Each is a name and its steps."""
     yield "fresh chip", []
     fill = [(write(112, 0, 1), 0)] + [(write(96, 0, 1), 0)] * 7
     chosen = [("discard", quiet([write(1, 0x19), write(4, ALL)]) + fill + [
@@ -1199,7 +1199,7 @@ def speed_records(chance, length):
 
 def room_records(chance, length):
     """Records about losses and waits: resets of both kinds, after which the
-    script may choose write wait or discard, and more triggers than sends."""
+    script may choose write wait or discard, and bursts of triggers and of sends."""
     settings = [1, 1, 5, 9, 9, 9, 0x11, 0x11, 0x15, 0x19, 0x19, 0x19]
     records = [write(1, chance.choice(settings)), write(4, ALL)]
     while len(records) < length:

@@ -240,7 +240,7 @@ module _ (op : Operation) (c : Chip) where
   pub waiting-never-8 : c .control .writewait ≡ true → eqb (step op c .number) 8 ≡ false
   waiting-never-8 w =
       reply-8
-      ∙ ap (λ (b : Bool). inside c && b) (trigger-never (λ a. c .control .sampling && (passes c a && (lacking c a && not (c .control .writewait)))) none op)
+      ∙ ap (λ (b : Bool). inside c && b) (trigger-never _ none op)
       ∙ and-false (inside c)
     where
       none : (a : ℕ) → (c .control .sampling && (passes c a && (lacking c a && not (c .control .writewait)))) ≡ false

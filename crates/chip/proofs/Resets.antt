@@ -1,5 +1,5 @@
 -- A hardware reset gives a fresh record but for its choice, whatever came in, and a software reset inside the bounds one but for the Timestamp
--- and the choice in force: by computation. Assumes nothing.
+-- and the choice in force: by computation. Such a record is inside the bounds, and its CSR reads 4. Assumes nothing.
 use Prim.Native.Nat.{ℕ, _^_, _<_}
 use native.Mathlib.Omega.{arith}
 use mathlib.Core.Path.{_≡_, refl, sym, ap, ap₂, _∙_}
@@ -36,12 +36,18 @@ hard-numbers hundredth c = refl
 
 -- what a reset leaves is inside the bounds, and the CSR reads 4 there: write wait, and nothing else
 module _ (stamp : ℕ) (hundredth : Bool) (s : stamp < 2 ^ 56) where
-  pub reset-inside : inside (withStamp stamp (withChoice hundredth fresh)) ≡ true
-  reset-inside = inside-by (withStamp stamp (withChoice hundredth fresh)) refl (divisor-some hundredth) s
+  abbrev resetTo : Chip
+  resetTo = withStamp stamp (withChoice hundredth fresh)
 
-  reset-csr : step (opRead 1) (withStamp stamp (withChoice hundredth fresh)) ≡ done 4 (withStamp stamp (withChoice hundredth fresh))
+  pub reset-inside : inside resetTo ≡ true
+  reset-inside = inside-by resetTo refl (divisor-some hundredth) s
+
+  reset-csr : step (opRead 1) resetTo ≡ done 4 resetTo
   unfolding read readAt placeOf registerOf anyResource
-  reset-csr = sym (guard-in (withStamp stamp (withChoice hundredth fresh)) (done 4 (withStamp stamp (withChoice hundredth fresh))) reset-inside)
+  reset-csr = sym (guard-in resetTo (done 4 resetTo) reset-inside)
+
+pub fresh-reads-4 : step (opRead 1) fresh ≡ done 4 fresh
+fresh-reads-4 = reset-csr 0 false (omega arith)
 
 pub hard-csr : (hundredth : Bool) (c : Chip) → step (opRead 1) (step (opReset hundredth) c .chip) ≡ done 4 (withChoice hundredth fresh)
 hard-csr hundredth c = reset-csr 0 hundredth (omega arith)

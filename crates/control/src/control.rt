@@ -4,17 +4,17 @@ ghost use Prim.Native.Nat.{_≤_};
 ghost use Rattle.counters.specs.Bank.{bit};
 ghost use Rattle.control.specs.Control.{configured, csrOf, filtering, freshControl, headerOf, one, overran, pair, taken, overrunsCleared, waitsCleared, waited};
 
-// No padding (16 bytes).
+// No padding (16 bytes). The Filter stands last: before the bools it makes every operation dearer (docs/PERFORMANCE.md, "Wait by default").
 pub struct Control {
     pub wait: u32,
     pub overrun: u32,
-    pub filter: u16,
     pub sampling: bool,
     pub writewait: bool,
     pub readwait: bool,
     pub flagfull: bool,
     pub flagbusy: bool,
     pub lost: bool,
+    pub filter: u16,
 }
 
 pub const TWO_16: u64 = 1 << 16;
@@ -27,13 +27,13 @@ impl Control {
         Control {
             wait: 0,
             overrun: 0,
-            filter: 0,
             sampling: false,
             writewait: true,
             readwait: false,
             flagfull: false,
             flagbusy: false,
             lost: false,
+            filter: 0,
         }
     }
 

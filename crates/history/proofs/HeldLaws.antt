@@ -17,9 +17,12 @@ use Rattle.samples.specs.declared.sample.Sample.{Sample}
 use Rattle.samples.proofs.SampleLaws.{sample-length}
 use Rattle.history.specs.Stream.{Every, heldOf, lengthOf, totalOf, wordsOfAll}
 
--- each sample has sixteen counters
+-- a sample with sixteen counters, and samples of which each has
+abbrev pub HasSixteen : Sample → Type 0
+HasSixteen s = length (s .counters) ≡ 16
+
 abbrev pub Sixteen : List Sample → Type 0
-Sixteen ss = Every (λ s. length (s .counters) ≡ 16) ss
+Sixteen ss = Every HasSixteen ss
 
 -- one sample more
 pub every-more : (P : Sample → Type 0) (ss : List Sample) (s : Sample) → Every P ss → P s → Every P (ss ++ (s ∷ []))

@@ -4,8 +4,9 @@ pub mod Agrees
 pub mod CountLaws
 pub mod HeldLaws
 pub mod HoldsLaws
+pub mod Leaves
 pub mod Steps
 pub mod StreamLaws
 pub mod Theorems
 pub mod Triggers
-pub mod Unlost
+pub mod Walks

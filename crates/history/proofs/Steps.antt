@@ -44,7 +44,7 @@ use Rattle.history.proofs.Triggers.{told, trigger-kept}
 -- ---- settings
 
 -- a pair of bits and the number that it is
-pair-turned : (n even odd : ℕ) → even ≡ n % 4 % 2 → odd ≡ n % 4 / 2 → (b : Bool) → pair (eqb even 1) (eqb odd 1) b ≡ turned (n % 4) b
+pub pair-turned : (n even odd : ℕ) → even ≡ n % 4 % 2 → odd ≡ n % 4 / 2 → (b : Bool) → pair (eqb even 1) (eqb odd 1) b ≡ turned (n % 4) b
 pair-turned n even odd p q b = ap₂ (λ (x y : ℕ). pair (eqb x 1) (eqb y 1) b) p q ∙ go (n % 4) (mod-lt n (pow-pos 2))
   where
     go : (m : ℕ) → m < 4 → pair (eqb (m % 2) 1) (eqb (m / 2) 1) b ≡ turned m b

@@ -1,10 +1,10 @@
--- Demand 3, for every list of operations from a fresh chip, with no hypothesis on the list. The proof is one relation between ledger
--- and record (`Agrees`), kept by every operation (`Steps`), and a fold. Assumes nothing.
+-- Demand 3, for every list of operations from a fresh chip, and document 02's settings after it. The proof is one relation between ledger and
+-- record (`Agrees`), kept by every operation (`Steps`), and a fold. Assumes nothing of the list, but for part 9: that it hasn't asked for discard.
 use Prim.Native.Nat.{ℕ, _+_, _-_, _%_, _^_, _≤_, _<_}
 use native.Mathlib.Omega.{arith}
 use mathlib.Core.Path.{_≡_, refl, sym, ap, ap₂, _∙_}
 use mathlib.Core.Bool.{Bool, true, false, cond}
-use mathlib.Core.List.{List, [], _∷_, _++_}
+use mathlib.Core.List.{List, [], _∷_, _++_, map}
 use lib.Dec.{eqb, leb}
 use lib.ListN.{length, take, drop, getD, take-append-drop, replicate}
 use lib.Seq.{take-all}
@@ -13,15 +13,13 @@ use Rattle.samples.specs.declared.edition.Edition.the-variants.{First}
 use Rattle.queue.specs.Queue.{emptyQueue}
 use Rattle.control.specs.declared.control.Control.{Control}
 use Rattle.chip.specs.Chip.{fresh, inside}
-use Rattle.chip.specs.Operation.{Operation, opReset, opWrite, opRead, opTicks, opNodes, opEvents, opSend, opFill, step}
-use Rattle.chip.specs.Rows.{checked}
+use Rattle.chip.specs.Operation.{Operation, opReset, opWrite, opRead, opSend, step}
 use Rattle.chip.specs.Shape.{Shaped}
 use Rattle.chip.specs.declared.chip.Chip.{Chip}
 use Rattle.chip.proofs.Bounds.{fresh-shaped, keeps-shaped}
 use Rattle.chip.proofs.Bounds.{never-15 as inside-never-15}
-use Rattle.chip.proofs.Choice.{choice-stays}
 use Rattle.chip.proofs.Replies.{waiting-never-8}
-use Rattle.history.specs.Ledger.{Entry, Fate, Ledger, byFate, choiceFrom, discardFrom, fateIn, fateNumber, ledgerFrom, ledgerOf, lineIn, noCounter, resetAt, tells, entryOf, triggered, written}
+use Rattle.history.specs.Ledger.{Entry, Fate, Ledger, afterAll, afterOne, byFate, choiceAfter, choiceOf, discardAfter, discardOf, fateIn, fateNumber, ledgerFrom, ledgerOf, lineIn, noCounter, resetAt, tells, entryOf, triggered, waitAfter, waitOf, written}
 use Rattle.history.specs.Run.{chipOf, comeWithin, runFrom, sentFrom, sentOf, toCome}
 use Rattle.history.specs.Stream.{Every, totalOf, wordsOfAll}
 use Rattle.history.proofs.Addresses.{range-trigger}
@@ -29,9 +27,10 @@ use Rattle.history.proofs.Agrees.{Agrees, controlOf, for-inside}
 use Rattle.history.proofs.CountLaws.{value-at, wrapped}
 use Rattle.history.proofs.HeldLaws.{words-left, words-total}
 use Rattle.history.proofs.HoldsLaws.{holds-left}
+use Rattle.history.proofs.Leaves.{all-leave}
 use Rattle.history.proofs.Steps.{agrees-step, reset-good, reset-record}
 use Rattle.history.proofs.StreamLaws.{come-words, stream-step}
-use Rattle.history.proofs.Unlost.{Unlost, list-unlost, reset-unlost}
+use Rattle.history.proofs.Walks.{Unlost, Unmarked, one-choice, one-unlost, one-wait, reset-unlost}
 
 -- ---- the fold
 
@@ -119,33 +118,25 @@ timestamp-counts ops = ap (λ (c : Chip). c .stamp) (agrees ops .is)
 
 -- ---- 7. The slow clock has the speed that the last hardware reset of the list chose, and the tenth where there is none; so has the ledger
 
-pub choice-said : (ops : List Operation) → chipOf ops .switches .hundredth ≡ choiceFrom false ops
-unfolding runFrom choiceFrom
-choice-said ops = go ops fresh
-  where
-    stays : (op : Operation) (os : List Operation) (c : Chip) → checked op ≡ true → choiceFrom (step op c .chip .switches .hundredth) os ≡ choiceFrom (c .switches .hundredth) os
-    stays op os c e = ap (λ (b : Bool). choiceFrom b os) (choice-stays op c e)
+pub ledger-choice : (ops : List Operation) → ledgerOf ops .hundredth ≡ choiceOf ops
+ledger-choice ops = all-leave (λ l b. l .hundredth ≡ b) choiceAfter one-choice ops (resetAt 0 false) false refl
 
-    go : (os : List Operation) (c : Chip) → runFrom c os .switches .hundredth ≡ choiceFrom (c .switches .hundredth) os
-    go [] c = refl
-    go (opReset hundredth ∷ os) c = go os _
-    go (opWrite address bits lines ∷ os) c = go os _ ∙ stays (opWrite address bits lines) os c refl
-    go (opRead address ∷ os) c = go os _ ∙ stays (opRead address) os c refl
-    go (opTicks k ∷ os) c = go os _ ∙ stays (opTicks k) os c refl
-    go (opNodes k ∷ os) c = go os _ ∙ stays (opNodes k) os c refl
-    go (opEvents mask ∷ os) c = go os _ ∙ stays (opEvents mask) os c refl
-    go (opSend ∷ os) c = go os _ ∙ stays opSend os c refl
-    go (opFill room ∷ os) c = go os _ ∙ stays (opFill room) os c refl
+pub choice-said : (ops : List Operation) → chipOf ops .switches .hundredth ≡ choiceOf ops
+choice-said ops = ap (λ (c : Chip). c .switches .hundredth) (agrees ops .is) ∙ ledger-choice ops
 
-pub ledger-choice : (ops : List Operation) → ledgerOf ops .hundredth ≡ choiceFrom false ops
-ledger-choice ops = sym (ap (λ (c : Chip). c .switches .hundredth) (agrees ops .is)) ∙ choice-said ops
+-- ---- 8. Write wait is set by every reset, and by CSR bit 2, and taken away by bit 3 alone
 
--- ---- 8. Document 02, Wish 7: where no write at 1 has asked for discard since the last reset, write wait is set and no trigger is lost next; none
--- was, neither counted nor flagged nor marked, and no sample taken since has the lost mark, bit 4 of its header
+pub wait-said : (ops : List Operation) → chipOf ops .control .writewait ≡ waitOf ops
+wait-said ops =
+    ap (λ (c : Chip). c .control .writewait) (agrees ops .is)
+    ∙ all-leave (λ l b. l .settings .writewait ≡ b) waitAfter one-wait ops (resetAt 0 false) true refl
 
-module _ (ops : List Operation) (e : discardFrom false ops ≡ false) where
+-- ---- 9. On a list that hasn't asked for discard since its last reset, write wait is set and no trigger is lost next; none was since then, neither
+-- counted nor flagged nor marked, and no sample taken has the lost mark
+
+module _ (ops : List Operation) (e : discardOf ops ≡ false) where
   unlost : Unlost (ledgerOf ops)
-  unlost = list-unlost ops false (resetAt 0 false) (λ f. reset-unlost 0 false) e
+  unlost = all-leave (λ l b. b ≡ false → Unlost l) discardAfter one-unlost ops (resetAt 0 false) false (λ none. reset-unlost 0 false) e
 
   of-control : {A : Type 0} (f : Control → A) → f (chipOf ops .control) ≡ f (controlOf (ledgerOf ops))
   of-control f = ap (λ (c : Chip). f (c .control)) (agrees ops .is)
@@ -158,12 +149,18 @@ module _ (ops : List Operation) (e : discardFrom false ops ≡ false) where
 
   pub nothing-lost : let k = chipOf ops .control in (k .overrun ≡ 0) × ((k .flagfull ≡ false) × ((k .flagbusy ≡ false) × (k .lost ≡ false)))
   nothing-lost =
-      (overrun-counts ops ∙ ap wrapped (unlost .none), (of-control (λ k. k .flagfull) ∙ unlost .unflagged .0, (of-control (λ k. k .flagbusy) ∙ unlost .unflagged .1, of-control (λ k. k .lost) ∙ unlost .unmarked)))
+      (overrun-counts ops ∙ ap wrapped (unlost .uncounted), (of-control (λ k. k .flagfull) ∙ unlost .unflagged .0, (of-control (λ k. k .flagbusy) ∙ unlost .unflagged .1, of-control (λ k. k .lost) ∙ unlost .unmarked)))
 
-  pub none-marked : Every (λ s. s .header < 16) (ledgerOf ops .taken)
-  none-marked = unlost .headers
+  pub none-marked : Every Unmarked (ledgerOf ops .taken)
+  none-marked = unlost .samples
 
--- ---- 9. The chip never answers 15 on such a list
+-- which lists have asked, by examples: a CSR write with bit 3 has, also beside bit 2, and a later bit 2 doesn't take it back; either reset does. Other
+-- CSR writes and the same data elsewhere have not
+pub discard-examples : map discardOf ((opWrite 1 8 0 ∷ []) ∷ (opWrite 1 12 0 ∷ []) ∷ (opWrite 1 9 0 ∷ opWrite 1 4 0 ∷ []) ∷ (opReset true ∷ opWrite 1 8 0 ∷ opSend ∷ []) ∷ [] ∷ (opWrite 1 8 0 ∷ opWrite 0 8 0 ∷ []) ∷ (opWrite 1 8 0 ∷ opReset false ∷ opWrite 1 5 0 ∷ []) ∷ (opWrite 1 55 0 ∷ opWrite 4 8 0 ∷ opRead 1 ∷ []) ∷ []) ≡ true ∷ true ∷ true ∷ true ∷ false ∷ false ∷ false ∷ false ∷ []
+unfolding afterAll afterOne
+discard-examples = refl
+
+-- ---- 10. The chip never answers 15
 
 pub always-inside : (ops : List Operation) → inside (chipOf ops) ≡ true
 always-inside ops =
@@ -173,7 +170,7 @@ always-inside ops =
 pub never-15 : (ops : List Operation) (op : Operation) → eqb (step op (chipOf ops) .number) 15 ≡ false
 never-15 ops op = inside-never-15 op (chipOf ops) (always-inside ops)
 
--- ---- 10. And its lists have the lengths and widths that their types give
+-- ---- 11. And its lists have the lengths and widths that their types give
 
 pub always-shaped : (ops : List Operation) → Shaped (chipOf ops)
 unfolding runFrom

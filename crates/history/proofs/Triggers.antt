@@ -29,7 +29,7 @@ use Rattle.history.specs.Stream.{anyHeld, isBlocked, isFull}
 use Rattle.history.proofs.Addresses.{line-is, line-same}
 use Rattle.history.proofs.Agrees.{Good, Kept, chipFor, controlOf, switchesOf}
 use Rattle.history.proofs.CountLaws.{valueOf, wrapped, wrapped-grown}
-use Rattle.history.proofs.HeldLaws.{every-more}
+use Rattle.history.proofs.HeldLaws.{HasSixteen, every-more}
 use Rattle.history.proofs.HoldsLaws.{Holds, holds-busy, holds-copied, holds-full, holds-pushed}
 
 -- the chip's name for a fate
@@ -188,7 +188,7 @@ module _ (l : Ledger) (q : Queue) (sh : List ℕ) (g : Good l q sh) where
               good =
                   record {
                     holds = taken-holds r line bits h room;
-                    sixteen = every-more (λ s. length (s .counters) ≡ 16) (l .taken) (sampleIn r line bits l) (g .sixteen) (sample-sixteen r line bits);
+                    sixteen = every-more HasSixteen (l .taken) (sampleIn r line bits l) (g .sixteen) (sample-sixteen r line bits);
                     counters = g .counters;
                   };
             };

@@ -360,28 +360,42 @@ ledgerFrom l (op ∷ ops) = ledgerFrom (entryOf op l .ledger) ops
 abbrev pub ledgerOf : List Operation → Ledger
 ledgerOf ops = ledgerFrom (resetAt 0 false) ops
 
--- document 02, Wish 2, "the choice in force", a second time: the last hardware reset's, and where there was none the one before
-unfoldable pub choiceFrom : Bool → List Operation → Bool
-choiceFrom b [] = b
-choiceFrom b (opReset hundredth ∷ ops) = choiceFrom hundredth ops
-choiceFrom b (opWrite address bits lines ∷ ops) = choiceFrom b ops
-choiceFrom b (opRead address ∷ ops) = choiceFrom b ops
-choiceFrom b (opTicks k ∷ ops) = choiceFrom b ops
-choiceFrom b (opNodes k ∷ ops) = choiceFrom b ops
-choiceFrom b (opEvents mask ∷ ops) = choiceFrom b ops
-choiceFrom b (opSend ∷ ops) = choiceFrom b ops
-choiceFrom b (opFill room ∷ ops) = choiceFrom b ops
+-- ---- document 02's settings a second time, by a walk over the list that knows resets and writes alone
 
--- document 02, Wish 7, a second time: "Scripts that counted on discard must write CSR bit 3 first". Whether a list did so since its last reset,
--- by address 1 and bit 3 alone, where b says it of what was before
-unfoldable pub discardFrom : Bool → List Operation → Bool
-discardFrom b [] = b
-discardFrom b (opReset hundredth ∷ ops) = discardFrom false ops
-discardFrom b (opWrite address bits lines ∷ ops) =
-    discardFrom (cond (eqb address 0) false (b || (eqb address 1 && isSet bits 3))) ops
-discardFrom b (opRead address ∷ ops) = discardFrom b ops
-discardFrom b (opTicks k ∷ ops) = discardFrom b ops
-discardFrom b (opNodes k ∷ ops) = discardFrom b ops
-discardFrom b (opEvents mask ∷ ops) = discardFrom b ops
-discardFrom b (opSend ∷ ops) = discardFrom b ops
-discardFrom b (opFill room ∷ ops) = discardFrom b ops
+-- a yes or no after an operation: what a hardware reset makes of its choice, a write of its address and data; every other operation leaves it
+unfoldable pub afterOne : (Bool → Bool) → (ℕ → ℕ → Bool → Bool) → Operation → Bool → Bool
+afterOne reset write (opReset hundredth) b = reset hundredth
+afterOne reset write (opWrite address bits lines) b = write address bits b
+afterOne reset write (opRead address) b = b
+afterOne reset write (opTicks k) b = b
+afterOne reset write (opNodes k) b = b
+afterOne reset write (opEvents mask) b = b
+afterOne reset write opSend b = b
+afterOne reset write (opFill room) b = b
+
+-- and after all of them
+unfoldable pub afterAll : (Operation → Bool → Bool) → Bool → List Operation → Bool
+afterAll f b [] = b
+afterAll f b (op ∷ ops) = afterAll f (f op b) ops
+
+-- Wish 2, "the choice in force": the last hardware reset's, and "A fresh chip has the tenth"
+abbrev pub choiceAfter : Operation → Bool → Bool
+choiceAfter = afterOne (λ hundredth. hundredth) (λ a bits b. b)
+
+abbrev pub choiceOf : List Operation → Bool
+choiceOf ops = afterAll choiceAfter false ops
+
+-- Wish 7, "After either reset, write wait shall be set"; else by document 01's CSR: "bit 2 sets write wait, bit 3 discard", "the odd one wins"
+abbrev pub waitAfter : Operation → Bool → Bool
+waitAfter =
+    afterOne (λ hundredth. true) (λ a bits b. cond (eqb a 0) true (cond (eqb a 1) (cond (isSet bits 3) false (cond (isSet bits 2) true b)) b))
+
+abbrev pub waitOf : List Operation → Bool
+waitOf ops = afterAll waitAfter true ops
+
+-- Wish 7, "Scripts that counted on discard must write CSR bit 3 first": whether a list did since its last reset
+abbrev pub discardAfter : Operation → Bool → Bool
+discardAfter = afterOne (λ hundredth. false) (λ a bits b. cond (eqb a 0) false (cond (eqb a 1) (b || isSet bits 3) b))
+
+abbrev pub discardOf : List Operation → Bool
+discardOf ops = afterAll discardAfter false ops

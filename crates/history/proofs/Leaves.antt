@@ -1,0 +1,102 @@
+-- What an operation can leave of a ledger: what is so of each of these ledgers is so of whatever the operation leaves, and after a list. Said once for
+-- all properties P of a ledger and a yes or no that is followed beside it. By the ledger's tests of addresses, settings and lines. Assumes nothing.
+use Prim.Native.Nat.{ℕ, _-_, _%_, _<_}
+use mathlib.Core.Path.{_≡_, refl, sym, subst}
+use mathlib.Core.Bool.{Bool, true, false, cond, false≢true}
+use mathlib.Core.List.{List, [], _∷_}
+use lib.Dec.{eqb, leb, ltb}
+use borrow.Author.Tests.{eqb-true, ltb-true}
+use Rattle.samples.specs.declared.sample.Sample.{Sample}
+use Rattle.chip.specs.Operation.{Operation, opReset, opWrite, opRead, opTicks, opNodes, opEvents, opSend, opFill}
+use Rattle.chip.proofs.ChipLaws.{either}
+use Rattle.history.specs.Ledger.{Counter, Entry, Errors, Fate, Ledger, afterAll, afterFate, afterOne, byFate, byRange, configured, each, entryOf, fateIn, filtering, held, ledgerFrom, left, lineIn, lostCleared, readIn, readLow, resetAt, tells, triggered, vacant, waitedOne, waitsCleared, wasFiltered, wasLost, wasOff, wasTaken, wasTold, withErrors, withSettings, withSources, withStream, withTicks, written, writtenLow}
+use Rattle.history.specs.Stream.{anyHeld}
+
+-- a trigger's fate leaves the ledger, other errors, or one sample more
+pub fate-leaves : (P : Ledger → Type 0) (l : Ledger) → P l → ((e : Errors) → P (withErrors e l)) → ((ss : List Sample) (e : Errors) → P (withStream ss (l .sent) (withErrors e l))) → (f : Fate) (resource : Bool) (line bits : ℕ) → P (afterFate f resource line bits l)
+unfolding afterFate
+fate-leaves P l h e s wasOff resource line bits = h
+fate-leaves P l h e s wasFiltered resource line bits = h
+fate-leaves P l h e s wasLost resource line bits = e _
+fate-leaves P l h e s wasTold resource line bits = e _
+fate-leaves P l h e s wasTaken resource line bits = s _ _
+
+module _ (P : Ledger → Bool → Type 0) (l : Ledger) (b : Bool) (h : P l b) where
+  abbrev Of : Entry → Type 0
+  Of e = P (e .ledger) b
+
+  range-leaves : (a : ℕ) (trigger counter source register : Entry) → Of trigger → Of counter → Of source → Of register → Of (byRange a l trigger counter source register)
+  unfolding byRange
+  range-leaves a t c s r p q o w =
+      either Of (ltb 127 a) _ _ h
+      (either Of (vacant a) _ _ h (either Of (leb 96 a) _ _ p (either Of (leb 32 a) _ _ q (either Of (leb 16 a) _ _ o w))))
+
+  trigger-leaves : (resource : Bool) (level bits lines : ℕ) → (lineIn lines < 8 → P (afterFate (fateIn resource level l) resource (lineIn lines) bits l) b) → Of (triggered resource level bits lines l)
+  unfolding triggered
+  trigger-leaves resource level bits lines t = go (ltb (lineIn lines) 8) refl
+    where
+      go : (z : Bool) → ltb (lineIn lines) 8 ≡ z → Of (cond z (byFate (fateIn resource level l) resource (lineIn lines) bits l) (tells 4 0 l))
+      go true e = t (ltb-true (lineIn lines) 8 e)
+      go false e = h
+
+  -- a read leaves the ledger, or one wait more
+  read-leaves : (a : ℕ) → P (withErrors (waitedOne (l .errors)) l) b → Of (readIn a l)
+  unfolding readIn readLow
+  read-leaves a w =
+      range-leaves a _ _ _ _ h (either Of (anyHeld (held l)) _ _ (either Of (l .settings .readwait) _ _ w h) h) h
+      (either Of (eqb a 1) _ _ h
+      (either Of (eqb a 2) _ _ h
+      (either Of (eqb a 4) _ _ h
+      (either Of (eqb a 5) _ _ h
+      (either Of (eqb a 6) _ _ h
+      (either Of (eqb a 8) _ _ h
+      (either Of (eqb a 11) _ _ h h)))))))
+
+  -- with the yes or no as it was: another Filter (f), no waits (w), no losses (o), other counters (c), other Source Addresses (s), what a trigger's
+  -- fate leaves (t)
+  module _ (bits : ℕ) (f : P (withSettings (filtering bits (l .settings)) l) b) (w : P (withErrors (waitsCleared (l .errors)) l) b) (o : P (withErrors (lostCleared (l .errors)) l) b) (c : (g : ℕ → Counter → Counter) → P (each g l) b) (s : (xs : List ℕ) → P (withSources xs l) b) (t : (resource : Bool) (level line : ℕ) → line < 8 → P (afterFate (fateIn resource level l) resource line bits l) b) where
+    other-leaves : (a lines : ℕ) → eqb a 0 ≡ false → eqb a 1 ≡ false → Of (written a bits lines l)
+    unfolding written writtenLow
+    other-leaves a lines n m =
+        range-leaves a _ _ _ _ (trigger-leaves (leb 112 a) (a % 16) bits lines (t (leb 112 a) (a % 16) (lineIn lines))) (c _) (s _)
+        (never (eqb a 0) _ _ n
+        (never (eqb a 1) _ _ m
+        (either Of (eqb a 2) _ _ h
+        (either Of (eqb a 4) _ _ f
+        (either Of (eqb a 5) _ _ w
+        (either Of (eqb a 6) _ _ o
+        (either Of (eqb a 8) _ _ (c _)
+        (either Of (eqb a 10) _ _ (c _)
+        (either Of (eqb a 11) _ _ (c _) (c _))))))))))
+      where
+        never : (z : Bool) (x y : Entry) → z ≡ false → Of y → Of (cond z x y)
+        never true x y e q = absurd (false≢true (sym e))
+        never false x y e q = q
+
+    -- a write by its address: at 0 what a reset leaves, at 1 other settings, and else one of these
+    pub write-leaves : (zero one : Bool) → P (resetAt (l .clock) (l .hundredth)) zero → P (withSettings (configured bits (l .settings)) l) one → (a lines : ℕ) → P (written a bits lines l .ledger) (cond (eqb a 0) zero (cond (eqb a 1) one b))
+    unfolding written writtenLow byRange vacant
+    write-leaves zero one n k a lines = go (eqb a 0) (eqb a 1) refl refl
+      where
+        go : (x y : Bool) → eqb a 0 ≡ x → eqb a 1 ≡ y → P (written a bits lines l .ledger) (cond x zero (cond y one b))
+        go true y e d = subst (λ (i : ℕ). P (written i bits lines l .ledger) zero) (sym (eqb-true a 0 e)) n
+        go false true e d = subst (λ (i : ℕ). P (written i bits lines l .ledger) one) (sym (eqb-true a 1 d)) k
+        go false false e d = other-leaves a lines e d
+
+  -- an operation: what a hardware reset and a write leave, or one wait more, other counters, with ticks or without, or words sent
+  pub one-leaves : (reset : Bool → Bool) (write : ℕ → ℕ → Bool → Bool) → ((hundredth : Bool) → P (resetAt 0 hundredth) (reset hundredth)) → ((a bits lines : ℕ) → P (written a bits lines l .ledger) (write a bits b)) → P (withErrors (waitedOne (l .errors)) l) b → ((g : ℕ → Counter → Counter) → P (each g l) b) → ((k : ℕ) (g : ℕ → Counter → Counter) → P (withTicks k (each g l)) b) → ((n : ℕ) → P (withStream (l .taken) n l) b) → (op : Operation) → P (entryOf op l .ledger) (afterOne reset write op b)
+  unfolding entryOf afterOne
+  one-leaves reset write r v w c k n (opReset hundredth) = r hundredth
+  one-leaves reset write r v w c k n (opWrite address bits lines) = v address bits lines
+  one-leaves reset write r v w c k n (opRead address) = read-leaves address w
+  one-leaves reset write r v w c k n (opTicks count) = k count _
+  one-leaves reset write r v w c k n (opNodes count) = c _
+  one-leaves reset write r v w c k n (opEvents mask) = c _
+  one-leaves reset write r v w c k n opSend = either Of (eqb (left l) 0) _ _ h (n _)
+  one-leaves reset write r v w c k n (opFill room) = n _
+
+-- and a list
+pub all-leave : (P : Ledger → Bool → Type 0) (f : Operation → Bool → Bool) → ((op : Operation) (l : Ledger) (b : Bool) → P l b → P (entryOf op l .ledger) (f op b)) → (ops : List Operation) (l : Ledger) (b : Bool) → P l b → P (ledgerFrom l ops) (afterAll f b ops)
+unfolding ledgerFrom afterAll
+all-leave P f one [] l b h = h
+all-leave P f one (op ∷ ops) l b h = all-leave P f one ops _ _ (one op l b h)
