@@ -1,6 +1,6 @@
 -- Each reply number is given exactly in its row's case: by computation for each address up to 127 but for the triggers' writes and the
--- counters' reads, and for those by the definitions' own tests. Assumes nothing.
-use Prim.Native.Nat.{ℕ, _-_, _%_, _^_, _≤_, _<_}
+-- counters' reads, and for those by the definitions' own tests. Assumes nothing, but `waiting-never-8` that write wait is set.
+use Prim.Native.Nat.{ℕ, _-_, _%_, _≤_, _<_}
 use native.Mathlib.Omega.{arith}
 use mathlib.Core.Path.{_≡_, refl, sym, ap, ap₂, _∙_}
 use mathlib.Core.Bool.{Bool, true, false, cond, not, _&&_, _||_, and-false}

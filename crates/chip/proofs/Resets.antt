@@ -67,6 +67,7 @@ module _ (bits lines : ℕ) (c : Chip) (h : inside c ≡ true) where
   pub soft-numbers : numbersOf (step (opWrite 0 bits lines) c .chip) ≡ c .stamp ∷ cond (c .switches .hundredth) 1 0 ∷ 1 ∷ replicate 86 0
   soft-numbers = ap (λ (t : Told). numbersOf (t .chip)) soft-reset
 
+  -- and its CSR
   pub soft-csr : step (opRead 1) (step (opWrite 0 bits lines) c .chip) ≡ done 4 (withStamp (c .stamp) (withChoice (c .switches .hundredth) fresh))
   soft-csr = ap (λ (t : Told). step (opRead 1) (t .chip)) soft-reset ∙ reset-csr (c .stamp) (c .switches .hundredth) (inside-stamp c h)
 

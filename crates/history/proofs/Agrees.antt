@@ -1,6 +1,6 @@
 -- The relation between a ledger and a chip's record: every part of the record is a function of the ledger, but for the queue, which holds
 -- what the ledger says is held, and the shadows, which matter only to that. Assumes nothing.
-use Prim.Native.Nat.{ℕ, _-_, _%_, _^_}
+use Prim.Native.Nat.{ℕ, _%_, _^_}
 use native.Mathlib.Nat.{mod-lt}
 use mathlib.Core.Path.{_≡_, ap₂, subst}
 use mathlib.Core.Bool.{Bool, true, _&&_}

@@ -1,6 +1,6 @@
 -- Counters and the ledger's own: each register of the chip is the ledger's counters bit by bit, each counter is its events modulo 2^32, and
 -- both stay so whatever happens. Assumes nothing.
-use Prim.Native.Nat.{ℕ, zero, suc, _+_, _-_, _*_, _/_, _%_, _^_, _<_, suc-le-suc}
+use Prim.Native.Nat.{ℕ, zero, suc, _+_, _*_, _/_, _%_, _^_, _<_, suc-le-suc}
 use native.Mathlib.Nat.{mod-add-mod, zero-add, suc-add, add-zero, add-suc, le-of-suc-le-suc, not-suc-le-zero, pow-suc, zero-lt-suc}
 use native.Mathlib.Omega.{arith}
 use mathlib.Core.Path.{_≡_, refl, sym, ap, ap₂, _∙_}

@@ -1,6 +1,6 @@
 -- What an operation can leave of a ledger: what is so of each of these ledgers is so of whatever the operation leaves, and after a list. Said once for
 -- all properties P of a ledger and a yes or no that is followed beside it. By the ledger's tests of addresses, settings and lines. Assumes nothing.
-use Prim.Native.Nat.{ℕ, _-_, _%_, _<_}
+use Prim.Native.Nat.{ℕ, _%_, _<_}
 use mathlib.Core.Path.{_≡_, refl, sym, subst}
 use mathlib.Core.Bool.{Bool, true, false, cond, false≢true}
 use mathlib.Core.List.{List, [], _∷_}
@@ -22,54 +22,57 @@ fate-leaves P l h e s wasTold resource line bits = e _
 fate-leaves P l h e s wasTaken resource line bits = s _ _
 
 module _ (P : Ledger → Bool → Type 0) (l : Ledger) (b : Bool) (h : P l b) where
-  abbrev Of : Entry → Type 0
-  Of e = P (e .ledger) b
+  -- P of the ledger that an entry leaves, with the yes or no as it was
+  abbrev Leaves : Entry → Type 0
+  Leaves e = P (e .ledger) b
 
-  range-leaves : (a : ℕ) (trigger counter source register : Entry) → Of trigger → Of counter → Of source → Of register → Of (byRange a l trigger counter source register)
+  -- an address leaves the ledger, or what its range of the map does
+  range-leaves : (a : ℕ) (trigger counter source register : Entry) → Leaves trigger → Leaves counter → Leaves source → Leaves register → Leaves (byRange a l trigger counter source register)
   unfolding byRange
   range-leaves a t c s r p q o w =
-      either Of (ltb 127 a) _ _ h
-      (either Of (vacant a) _ _ h (either Of (leb 96 a) _ _ p (either Of (leb 32 a) _ _ q (either Of (leb 16 a) _ _ o w))))
+      either Leaves (ltb 127 a) _ _ h
+      (either Leaves (vacant a) _ _ h (either Leaves (leb 96 a) _ _ p (either Leaves (leb 32 a) _ _ q (either Leaves (leb 16 a) _ _ o w))))
 
-  trigger-leaves : (resource : Bool) (level bits lines : ℕ) → (lineIn lines < 8 → P (afterFate (fateIn resource level l) resource (lineIn lines) bits l) b) → Of (triggered resource level bits lines l)
+  -- a trigger leaves the ledger, or what its fate does where one line is active
+  trigger-leaves : (resource : Bool) (level bits lines : ℕ) → (lineIn lines < 8 → P (afterFate (fateIn resource level l) resource (lineIn lines) bits l) b) → Leaves (triggered resource level bits lines l)
   unfolding triggered
   trigger-leaves resource level bits lines t = go (ltb (lineIn lines) 8) refl
     where
-      go : (z : Bool) → ltb (lineIn lines) 8 ≡ z → Of (cond z (byFate (fateIn resource level l) resource (lineIn lines) bits l) (tells 4 0 l))
+      go : (z : Bool) → ltb (lineIn lines) 8 ≡ z → Leaves (cond z (byFate (fateIn resource level l) resource (lineIn lines) bits l) (tells 4 0 l))
       go true e = t (ltb-true (lineIn lines) 8 e)
       go false e = h
 
   -- a read leaves the ledger, or one wait more
-  read-leaves : (a : ℕ) → P (withErrors (waitedOne (l .errors)) l) b → Of (readIn a l)
+  read-leaves : (a : ℕ) → P (withErrors (waitedOne (l .errors)) l) b → Leaves (readIn a l)
   unfolding readIn readLow
   read-leaves a w =
-      range-leaves a _ _ _ _ h (either Of (anyHeld (held l)) _ _ (either Of (l .settings .readwait) _ _ w h) h) h
-      (either Of (eqb a 1) _ _ h
-      (either Of (eqb a 2) _ _ h
-      (either Of (eqb a 4) _ _ h
-      (either Of (eqb a 5) _ _ h
-      (either Of (eqb a 6) _ _ h
-      (either Of (eqb a 8) _ _ h
-      (either Of (eqb a 11) _ _ h h)))))))
+      range-leaves a _ _ _ _ h (either Leaves (anyHeld (held l)) _ _ (either Leaves (l .settings .readwait) _ _ w h) h) h
+      (either Leaves (eqb a 1) _ _ h
+      (either Leaves (eqb a 2) _ _ h
+      (either Leaves (eqb a 4) _ _ h
+      (either Leaves (eqb a 5) _ _ h
+      (either Leaves (eqb a 6) _ _ h
+      (either Leaves (eqb a 8) _ _ h
+      (either Leaves (eqb a 11) _ _ h h)))))))
 
   -- with the yes or no as it was: another Filter (f), no waits (w), no losses (o), other counters (c), other Source Addresses (s), what a trigger's
   -- fate leaves (t)
   module _ (bits : ℕ) (f : P (withSettings (filtering bits (l .settings)) l) b) (w : P (withErrors (waitsCleared (l .errors)) l) b) (o : P (withErrors (lostCleared (l .errors)) l) b) (c : (g : ℕ → Counter → Counter) → P (each g l) b) (s : (xs : List ℕ) → P (withSources xs l) b) (t : (resource : Bool) (level line : ℕ) → line < 8 → P (afterFate (fateIn resource level l) resource line bits l) b) where
-    other-leaves : (a lines : ℕ) → eqb a 0 ≡ false → eqb a 1 ≡ false → Of (written a bits lines l)
+    other-leaves : (a lines : ℕ) → eqb a 0 ≡ false → eqb a 1 ≡ false → Leaves (written a bits lines l)
     unfolding written writtenLow
     other-leaves a lines n m =
         range-leaves a _ _ _ _ (trigger-leaves (leb 112 a) (a % 16) bits lines (t (leb 112 a) (a % 16) (lineIn lines))) (c _) (s _)
         (never (eqb a 0) _ _ n
         (never (eqb a 1) _ _ m
-        (either Of (eqb a 2) _ _ h
-        (either Of (eqb a 4) _ _ f
-        (either Of (eqb a 5) _ _ w
-        (either Of (eqb a 6) _ _ o
-        (either Of (eqb a 8) _ _ (c _)
-        (either Of (eqb a 10) _ _ (c _)
-        (either Of (eqb a 11) _ _ (c _) (c _))))))))))
+        (either Leaves (eqb a 2) _ _ h
+        (either Leaves (eqb a 4) _ _ f
+        (either Leaves (eqb a 5) _ _ w
+        (either Leaves (eqb a 6) _ _ o
+        (either Leaves (eqb a 8) _ _ (c _)
+        (either Leaves (eqb a 10) _ _ (c _)
+        (either Leaves (eqb a 11) _ _ (c _) (c _))))))))))
       where
-        never : (z : Bool) (x y : Entry) → z ≡ false → Of y → Of (cond z x y)
+        never : (z : Bool) (x y : Entry) → z ≡ false → Leaves y → Leaves (cond z x y)
         never true x y e q = absurd (false≢true (sym e))
         never false x y e q = q
 
@@ -92,7 +95,7 @@ module _ (P : Ledger → Bool → Type 0) (l : Ledger) (b : Bool) (h : P l b) wh
   one-leaves reset write r v w c k n (opTicks count) = k count _
   one-leaves reset write r v w c k n (opNodes count) = c _
   one-leaves reset write r v w c k n (opEvents mask) = c _
-  one-leaves reset write r v w c k n opSend = either Of (eqb (left l) 0) _ _ h (n _)
+  one-leaves reset write r v w c k n opSend = either Leaves (eqb (left l) 0) _ _ h (n _)
   one-leaves reset write r v w c k n (opFill room) = n _
 
 -- and a list

@@ -1,4 +1,4 @@
--- The laws and the theorems of demand 3.
+-- The laws and the theorems of demand 3, and of the settings after a list.
 pub mod Addresses
 pub mod Agrees
 pub mod CountLaws

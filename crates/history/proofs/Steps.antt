@@ -1,6 +1,6 @@
 -- Every operation keeps the relation between ledger and record, and replies what the ledger says. Assumes nothing.
 use Prim.Native.Nat.{ℕ, zero, suc, _+_, _-_, _*_, _/_, _%_, _^_, _<_, min}
-use native.Mathlib.Nat.{mod-add-mod, mod-lt}
+use native.Mathlib.Nat.{div-div-eq-div-mul, div-one, mod-add-mod, mod-lt, pow-suc}
 use native.Mathlib.Omega.{arith}
 use mathlib.Core.Path.{_≡_, refl, sym, ap, ap₂, _∙_, subst}
 use mathlib.Core.Bool.{Bool, true, false, cond, not, _&&_, _||_}
@@ -43,16 +43,31 @@ use Rattle.history.proofs.Triggers.{told, trigger-kept}
 
 -- ---- settings
 
--- a pair of bits and the number that it is
-pub pair-turned : (n even odd : ℕ) → even ≡ n % 4 % 2 → odd ≡ n % 4 / 2 → (b : Bool) → pair (eqb even 1) (eqb odd 1) b ≡ turned (n % 4) b
-pair-turned n even odd p q b = ap₂ (λ (x y : ℕ). pair (eqb x 1) (eqb y 1) b) p q ∙ go (n % 4) (mod-lt n (pow-pos 2))
+-- a pair of bits, wherever it stands, and the number that it is
+pub pair-turned : (even bits : ℕ) (b : Bool) → pair (bit bits even) (bit bits (suc even)) b ≡ turned (bits / 2 ^ even % 4) b
+pair-turned even bits b =
+    ap₂ (λ (x y : ℕ). pair (eqb x 1) (eqb y 1) b) (low (bits / 2 ^ even)) (ap (λ (n : ℕ). n % 2) above ∙ high (bits / 2 ^ even))
+    ∙ go (bits / 2 ^ even % 4) (mod-lt (bits / 2 ^ even) (pow-pos 2))
   where
+    low : (n : ℕ) → n % 2 ≡ n % 4 % 2
+    low n = omega arith
+
+    above : bits / 2 ^ suc even ≡ bits / 2 ^ even / 2
+    above = ap (λ (d : ℕ). bits / d) (pow-suc 2 even) ∙ sym (div-div-eq-div-mul bits (2 ^ even) 2)
+
+    high : (n : ℕ) → n / 2 % 2 ≡ n % 4 / 2
+    high n = omega arith
+
     go : (m : ℕ) → m < 4 → pair (eqb (m % 2) 1) (eqb (m / 2) 1) b ≡ turned m b
     go zero h = refl
     go (suc zero) h = refl
     go (suc (suc zero)) h = refl
     go (suc (suc (suc zero))) h = refl
     go (suc (suc (suc (suc m)))) h = absurd (omega arith)
+
+-- the lowest pair stands at the number itself
+pub lowest-turned : (bits : ℕ) (b : Bool) → turned (bits / 2 ^ 0 % 4) b ≡ turned (bits % 4) b
+lowest-turned bits b = ap (λ (n : ℕ). turned (n % 4) b) (div-one bits)
 
 -- the CSR's bits as numbers
 csr-same : (full shadows : Bool) (l : Ledger) → csrOf full shadows (controlOf l) ≡ (cond (l .settings .sampling) 1 0 + cond (l .settings .writewait) 4 0 + cond (l .settings .readwait) 16 0) + (cond full 64 0 + cond shadows 128 0) + (cond (l .errors .flagfull) 256 0 + cond (l .errors .flagbusy) 512 0)
@@ -110,9 +125,9 @@ module _ (l : Ledger) (q : Queue) (sh : List ℕ) (g : Good l q sh) where
       other (withSettings (configured bits s) l) _
       (λ i.
       chipFor (withSettings (record {
-        sampling = pair-turned bits (bits / 1 % 2) (bits / 2 % 2) (omega arith) (omega arith) (s .sampling) i;
-        writewait = pair-turned (bits / 4) (bits / 4 % 2) (bits / 8 % 2) (omega arith) (omega arith) (s .writewait) i;
-        readwait = pair-turned (bits / 16) (bits / 16 % 2) (bits / 32 % 2) (omega arith) (omega arith) (s .readwait) i;
+        sampling = (pair-turned 0 bits (s .sampling) ∙ lowest-turned bits (s .sampling)) i;
+        writewait = pair-turned 2 bits (s .writewait) i;
+        readwait = pair-turned 4 bits (s .readwait) i;
         filter = s .filter;
       }) l) q sh)
       refl refl refl

@@ -1,10 +1,11 @@
--- Demand 3, for every list of operations from a fresh chip, and document 02's settings after it. The proof is one relation between ledger and
--- record (`Agrees`), kept by every operation (`Steps`), and a fold. Assumes nothing of the list, but for part 9: that it hasn't asked for discard.
-use Prim.Native.Nat.{ℕ, _+_, _-_, _%_, _^_, _≤_, _<_}
+-- Demand 3, for every list of operations from a fresh chip, and its settings after it. The proof is one relation between ledger and record (`Agrees`),
+-- kept by every operation (`Steps`), and a fold; for parts 7 to 9 also what each operation leaves of the ledger (`Walks`). Assumes nothing of the
+-- list, but for part 9: that it hasn't asked for discard.
+use Prim.Native.Nat.{ℕ, _+_, _%_, _^_, _≤_, _<_}
 use native.Mathlib.Omega.{arith}
 use mathlib.Core.Path.{_≡_, refl, sym, ap, ap₂, _∙_}
 use mathlib.Core.Bool.{Bool, true, false, cond}
-use mathlib.Core.List.{List, [], _∷_, _++_, map}
+use mathlib.Core.List.{List, [], _∷_, _++_}
 use lib.Dec.{eqb, leb}
 use lib.ListN.{length, take, drop, getD, take-append-drop, replicate}
 use lib.Seq.{take-all}
@@ -13,24 +14,24 @@ use Rattle.samples.specs.declared.edition.Edition.the-variants.{First}
 use Rattle.queue.specs.Queue.{emptyQueue}
 use Rattle.control.specs.declared.control.Control.{Control}
 use Rattle.chip.specs.Chip.{fresh, inside}
-use Rattle.chip.specs.Operation.{Operation, opReset, opWrite, opRead, opSend, step}
+use Rattle.chip.specs.Operation.{Operation, opWrite, step}
 use Rattle.chip.specs.Shape.{Shaped}
 use Rattle.chip.specs.declared.chip.Chip.{Chip}
 use Rattle.chip.proofs.Bounds.{fresh-shaped, keeps-shaped}
 use Rattle.chip.proofs.Bounds.{never-15 as inside-never-15}
 use Rattle.chip.proofs.Replies.{waiting-never-8}
-use Rattle.history.specs.Ledger.{Entry, Fate, Ledger, afterAll, afterOne, byFate, choiceAfter, choiceOf, discardAfter, discardOf, fateIn, fateNumber, ledgerFrom, ledgerOf, lineIn, noCounter, resetAt, tells, entryOf, triggered, waitAfter, waitOf, written}
+use Rattle.history.specs.Ledger.{Entry, Fate, Ledger, byFate, choiceAfter, choiceOf, discardAfter, discardOf, fateIn, fateNumber, ledgerFrom, ledgerOf, lineIn, noCounter, readWaitOf, resetAt, samplingOf, tells, entryOf, triggered, waitOf, written}
 use Rattle.history.specs.Run.{chipOf, comeWithin, runFrom, sentFrom, sentOf, toCome}
-use Rattle.history.specs.Stream.{Every, totalOf, wordsOfAll}
+use Rattle.history.specs.Stream.{Every, Unmarked, totalOf, wordsOfAll}
 use Rattle.history.proofs.Addresses.{range-trigger}
 use Rattle.history.proofs.Agrees.{Agrees, controlOf, for-inside}
 use Rattle.history.proofs.CountLaws.{value-at, wrapped}
 use Rattle.history.proofs.HeldLaws.{words-left, words-total}
 use Rattle.history.proofs.HoldsLaws.{holds-left}
 use Rattle.history.proofs.Leaves.{all-leave}
-use Rattle.history.proofs.Steps.{agrees-step, reset-good, reset-record}
+use Rattle.history.proofs.Steps.{agrees-step, lowest-turned, reset-good, reset-record}
 use Rattle.history.proofs.StreamLaws.{come-words, stream-step}
-use Rattle.history.proofs.Walks.{Unlost, Unmarked, one-choice, one-unlost, one-wait, reset-unlost}
+use Rattle.history.proofs.Walks.{Unlost, one-choice, one-unlost, reset-unlost, setting-said}
 
 -- ---- the fold
 
@@ -49,6 +50,10 @@ run-stream : (ops : List Operation) (l : Ledger) (c : Chip) (ws : List ℕ) → 
 unfolding ledgerFrom sentFrom
 run-stream [] l c ws a e = e
 run-stream (op ∷ ops) l c ws a e = run-stream ops (entryOf op l .ledger) (step op c .chip) _ (agrees-step op l c a .agrees) (stream-step l c a op ws e)
+
+-- settings, error counters and marks
+of-control : {A : Type 0} (ops : List Operation) (f : Control → A) → f (chipOf ops .control) ≡ f (controlOf (ledgerOf ops))
+of-control ops f = ap (λ (c : Chip). f (c .control)) (agrees ops .is)
 
 -- ---- 1. Replies
 
@@ -101,7 +106,7 @@ word-count ops = ap length (word-sum ops) ∙ words-total First (ledgerOf ops .t
 -- ---- 4. The Overrun Counter is the lost triggers since its last clearing, modulo 2^32
 
 pub overrun-counts : (ops : List Operation) → chipOf ops .control .overrun ≡ ledgerOf ops .errors .lost % 2 ^ 32
-overrun-counts ops = ap (λ (c : Chip). c .control .overrun) (agrees ops .is)
+overrun-counts ops = of-control ops (λ k. k .overrun)
 
 -- ---- 5. Each counter is the events due to it since its last clearing, modulo 2^32
 
@@ -111,7 +116,7 @@ counter-counts ops i = ap (λ (c : Chip). getD (c .bank .values) i 0) (agrees op
 -- ---- 6. The Wait Counter likewise, and the Timestamp modulo 2^56
 
 pub wait-counts : (ops : List Operation) → chipOf ops .control .wait ≡ ledgerOf ops .errors .waits % 2 ^ 32
-wait-counts ops = ap (λ (c : Chip). c .control .wait) (agrees ops .is)
+wait-counts ops = of-control ops (λ k. k .wait)
 
 pub timestamp-counts : (ops : List Operation) → chipOf ops .stamp ≡ ledgerOf ops .clock % 2 ^ 56
 timestamp-counts ops = ap (λ (c : Chip). c .stamp) (agrees ops .is)
@@ -124,41 +129,40 @@ ledger-choice ops = all-leave (λ l b. l .hundredth ≡ b) choiceAfter one-choic
 pub choice-said : (ops : List Operation) → chipOf ops .switches .hundredth ≡ choiceOf ops
 choice-said ops = ap (λ (c : Chip). c .switches .hundredth) (agrees ops .is) ∙ ledger-choice ops
 
--- ---- 8. Write wait is set by every reset, and by CSR bit 2, and taken away by bit 3 alone
+-- ---- 8. Sampling, write wait and read wait are what the list's resets and their pairs of CSR bits say
+
+pub sampling-said : (ops : List Operation) → chipOf ops .control .sampling ≡ samplingOf ops
+sampling-said ops =
+    of-control ops (λ k. k .sampling)
+    ∙ setting-said (λ s. s .sampling) false 0 refl (λ bits s. refl) (λ bits s. sym (lowest-turned bits (s .sampling))) ops
 
 pub wait-said : (ops : List Operation) → chipOf ops .control .writewait ≡ waitOf ops
 wait-said ops =
-    ap (λ (c : Chip). c .control .writewait) (agrees ops .is)
-    ∙ all-leave (λ l b. l .settings .writewait ≡ b) waitAfter one-wait ops (resetAt 0 false) true refl
+    of-control ops (λ k. k .writewait) ∙ setting-said (λ s. s .writewait) true 2 refl (λ bits s. refl) (λ bits s. refl) ops
 
--- ---- 9. On a list that hasn't asked for discard since its last reset, write wait is set and no trigger is lost next; none was since then, neither
--- counted nor flagged nor marked, and no sample taken has the lost mark
+pub read-wait-said : (ops : List Operation) → chipOf ops .control .readwait ≡ readWaitOf ops
+read-wait-said ops =
+    of-control ops (λ k. k .readwait) ∙ setting-said (λ s. s .readwait) false 4 refl (λ bits s. refl) (λ bits s. refl) ops
+
+-- ---- 9. On a list that hasn't asked for discard since its last reset, write wait is set and no trigger is lost next; since then, or since a write at
+-- 6 that clears them, none is counted or flagged; there is no lost mark, and no sample taken has it
 
 module _ (ops : List Operation) (e : discardOf ops ≡ false) where
   unlost : Unlost (ledgerOf ops)
   unlost = all-leave (λ l b. b ≡ false → Unlost l) discardAfter one-unlost ops (resetAt 0 false) false (λ none. reset-unlost 0 false) e
 
-  of-control : {A : Type 0} (f : Control → A) → f (chipOf ops .control) ≡ f (controlOf (ledgerOf ops))
-  of-control f = ap (λ (c : Chip). f (c .control)) (agrees ops .is)
-
   pub waits-unless-asked : chipOf ops .control .writewait ≡ true
-  waits-unless-asked = of-control (λ k. k .writewait) ∙ unlost .waits
+  waits-unless-asked = of-control ops (λ k. k .writewait) ∙ unlost .waits
 
   pub never-8 : (op : Operation) → eqb (step op (chipOf ops) .number) 8 ≡ false
   never-8 op = waiting-never-8 op (chipOf ops) waits-unless-asked
 
   pub nothing-lost : let k = chipOf ops .control in (k .overrun ≡ 0) × ((k .flagfull ≡ false) × ((k .flagbusy ≡ false) × (k .lost ≡ false)))
   nothing-lost =
-      (overrun-counts ops ∙ ap wrapped (unlost .uncounted), (of-control (λ k. k .flagfull) ∙ unlost .unflagged .0, (of-control (λ k. k .flagbusy) ∙ unlost .unflagged .1, of-control (λ k. k .lost) ∙ unlost .unmarked)))
+      (overrun-counts ops ∙ ap wrapped (unlost .uncounted), (of-control ops (λ k. k .flagfull) ∙ unlost .unflagged .0, (of-control ops (λ k. k .flagbusy) ∙ unlost .unflagged .1, of-control ops (λ k. k .lost) ∙ unlost .unmarked)))
 
   pub none-marked : Every Unmarked (ledgerOf ops .taken)
   none-marked = unlost .samples
-
--- which lists have asked, by examples: a CSR write with bit 3 has, also beside bit 2, and a later bit 2 doesn't take it back; either reset does. Other
--- CSR writes and the same data elsewhere have not
-pub discard-examples : map discardOf ((opWrite 1 8 0 ∷ []) ∷ (opWrite 1 12 0 ∷ []) ∷ (opWrite 1 9 0 ∷ opWrite 1 4 0 ∷ []) ∷ (opReset true ∷ opWrite 1 8 0 ∷ opSend ∷ []) ∷ [] ∷ (opWrite 1 8 0 ∷ opWrite 0 8 0 ∷ []) ∷ (opWrite 1 8 0 ∷ opReset false ∷ opWrite 1 5 0 ∷ []) ∷ (opWrite 1 55 0 ∷ opWrite 4 8 0 ∷ opRead 1 ∷ []) ∷ []) ≡ true ∷ true ∷ true ∷ true ∷ false ∷ false ∷ false ∷ false ∷ []
-unfolding afterAll afterOne
-discard-examples = refl
 
 -- ---- 10. The chip never answers 15
 

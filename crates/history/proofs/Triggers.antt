@@ -1,5 +1,5 @@
 -- A trigger does to the chip what its fate by the list says. Assumes nothing.
-use Prim.Native.Nat.{ℕ, _+_, _-_, _%_, _^_, _<_}
+use Prim.Native.Nat.{ℕ, _+_, _%_, _^_, _<_}
 use mathlib.Core.Path.{_≡_, refl, sym, ap, ap₂, _∙_, subst}
 use mathlib.Core.Bool.{Bool, true, false, cond, _&&_, _||_, false≢true}
 use mathlib.Core.List.{List, [], _∷_, _++_, map}
@@ -66,11 +66,12 @@ header-same line true false = refl
 header-same line false true = refl
 header-same line false false = refl
 
-or-left : (a b : Bool) → (a || b) ≡ false → a ≡ false
+-- where neither of two is so
+pub or-left : (a b : Bool) → (a || b) ≡ false → a ≡ false
 or-left true b e = e
 or-left false b e = refl
 
-or-right : (a b : Bool) → (a || b) ≡ false → b ≡ false
+pub or-right : (a b : Bool) → (a || b) ≡ false → b ≡ false
 or-right true b e = absurd (false≢true (sym e))
 or-right false b e = e
 

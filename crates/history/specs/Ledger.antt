@@ -2,6 +2,7 @@
 -- operation: unbounded numbers and lists; nothing of the chip's record is in it, and the chip is not run. It goes by document 01's
 -- addresses and bits as numbers, and shares with the chip's definitions the operations and the sample with its layout, nothing else.
 use Prim.Native.Nat.{ℕ, suc, _+_, _-_, _*_, _/_, _%_, _^_, min}
+use mathlib.Core.Path.{_≡_}
 use mathlib.Core.Bool.{Bool, true, false, cond, _&&_, _||_}
 use mathlib.Core.List.{List, [], _∷_, _++_, map}
 use lib.Dec.{eqb, leb, ltb}
@@ -385,13 +386,26 @@ choiceAfter = afterOne (λ hundredth. hundredth) (λ a bits b. b)
 abbrev pub choiceOf : List Operation → Bool
 choiceOf ops = afterAll choiceAfter false ops
 
--- Wish 7, "After either reset, write wait shall be set"; else by document 01's CSR: "bit 2 sets write wait, bit 3 discard", "the odd one wins"
-abbrev pub waitAfter : Operation → Bool → Bool
-waitAfter =
-    afterOne (λ hundredth. true) (λ a bits b. cond (eqb a 0) true (cond (eqb a 1) (cond (isSet bits 3) false (cond (isSet bits 2) true b)) b))
+-- a setting by what a reset leaves of it and by a pair of document 01's CSR bits: the even one turns it on, the one above it off, and "the odd one
+-- wins"
+abbrev pub settingAfter : Bool → ℕ → Operation → Bool → Bool
+settingAfter reset even =
+    afterOne (λ hundredth. reset)
+    (λ a bits b. cond (eqb a 0) reset (cond (eqb a 1) (cond (isSet bits (suc even)) false (cond (isSet bits even) true b)) b))
+
+abbrev pub settingOf : Bool → ℕ → List Operation → Bool
+settingOf reset even ops = afterAll (settingAfter reset even) reset ops
+
+-- Wish 7, "After either reset, write wait shall be set; sampling and read wait stay off"; document 01, "Writing a 1 in bit 0 turns sampling on, in
+-- bit 1 off; bit 2 sets write wait, bit 3 discard; bit 4 sets read wait, bit 5 cancels it"
+abbrev pub samplingOf : List Operation → Bool
+samplingOf ops = settingOf false 0 ops
 
 abbrev pub waitOf : List Operation → Bool
-waitOf ops = afterAll waitAfter true ops
+waitOf ops = settingOf true 2 ops
+
+abbrev pub readWaitOf : List Operation → Bool
+readWaitOf ops = settingOf false 4 ops
 
 -- Wish 7, "Scripts that counted on discard must write CSR bit 3 first": whether a list did since its last reset
 abbrev pub discardAfter : Operation → Bool → Bool
@@ -399,3 +413,7 @@ discardAfter = afterOne (λ hundredth. false) (λ a bits b. cond (eqb a 0) false
 
 abbrev pub discardOf : List Operation → Bool
 discardOf ops = afterAll discardAfter false ops
+
+-- and a list that never did, wherever a write at 1 stands in it
+abbrev pub NoDiscard : List Operation → Type 0
+NoDiscard ops = (before after : List Operation) (bits lines : ℕ) → ops ≡ before ++ (opWrite 1 bits lines ∷ after) → isSet bits 3 ≡ false

@@ -1,6 +1,6 @@
 -- Document 01, "Triggers and the queue": "the list decides alone: samples taken since the last reset, in order with their lengths, and
 -- words sent since then, say which are held".
-use Prim.Native.Nat.{ℕ, _+_, _-_}
+use Prim.Native.Nat.{ℕ, _+_, _-_, _<_}
 use mathlib.Core.Bool.{Bool, false, cond, _&&_, _||_}
 use mathlib.Core.List.{List, [], _∷_, _++_}
 use lib.Dec.{leb}
@@ -28,6 +28,10 @@ totalOf ed (s ∷ ss) = lengthOf ed s + totalOf ed ss
 abbrev pub Every : (Sample → Type 0) → List Sample → Type 0
 Every P [] = Unit {0}
 Every P (s ∷ ss) = P s × Every P ss
+
+-- "bit 4 the lost mark before this trigger, bits 5..7 zero": a sample without the mark
+abbrev pub Unmarked : Sample → Type 0
+Unmarked s = s .header < 16
 
 -- "A sample is held from its trigger until its last word is sent": of the samples taken, those not wholly among the n words sent
 unfoldable pub heldOf : Edition → List Sample → ℕ → List Sample
