@@ -15,7 +15,7 @@ use Rattle.samples.specs.declared.edition.Edition.{Edition}
 use Rattle.samples.specs.declared.edition.Edition.the-variants.{First, Second}
 use Rattle.samples.specs.declared.sample.Sample.{Sample}
 use Rattle.samples.proofs.SampleLaws.{sample-length}
-use Rattle.history.specs.Stream.{Every, heldOf, lengthOf, totalOf, wordsOfAll}
+use Rattle.history.specs.Stream.{Every, heldOf, lengthOf, totalOf, unsentOf, wordsOfAll}
 
 -- a sample with sixteen counters, and samples of which each has
 abbrev pub HasSixteen : Sample → Type 0
@@ -28,6 +28,16 @@ Sixteen ss = Every HasSixteen ss
 pub every-more : (P : Sample → Type 0) (ss : List Sample) (s : Sample) → Every P ss → P s → Every P (ss ++ (s ∷ []))
 every-more P [] s h e = (e, tt)
 every-more P (t ∷ ss) s h e = (h .0, every-more P ss s (h .1) e)
+
+-- whatever the lengths, the first sample is not wholly sent and nothing behind it, or it is
+module _ {A : Type 0} (len : A → ℕ) (s : A) (ss : List A) (n : ℕ) where
+  pub unsent-here : n < len s → unsentOf len (s ∷ ss) n ≡ s ∷ ss
+  unfolding unsentOf
+  unsent-here h = ap (λ (b : Bool). cond b (unsentOf len ss (n - len s)) (s ∷ ss)) (lt-leb (len s) n h)
+
+  pub unsent-past : len s ≤ n → unsentOf len (s ∷ ss) n ≡ unsentOf len ss (n - len s)
+  unfolding unsentOf
+  unsent-past h = ap (λ (b : Bool). cond b (unsentOf len ss (n - len s)) (s ∷ ss)) (le-leb (len s) n h)
 
 -- how many words of the first held sample are among the n sent
 unfoldable pub offsetOf : Edition → List Sample → ℕ → ℕ
@@ -85,27 +95,23 @@ module _ (ed : Edition) where
   -- the first sample is the one being sent, or it is wholly sent
   module _ (s : Sample) (ss : List Sample) (n : ℕ) where
     pub held-here : n < lengthOf ed s → (heldOf ed (s ∷ ss) n ≡ s ∷ ss) × (offsetOf ed (s ∷ ss) n ≡ n)
-    unfolding heldOf offsetOf
-    held-here h = (
-      ap (λ (b : Bool). cond b (heldOf ed ss (n - lengthOf ed s)) (s ∷ ss)) (lt-leb (lengthOf ed s) n h),
-      ap (λ (b : Bool). cond b (offsetOf ed ss (n - lengthOf ed s)) n) (lt-leb (lengthOf ed s) n h),
-    )
+    unfolding offsetOf
+    held-here h =
+        (unsent-here (lengthOf ed) s ss n h, ap (λ (b : Bool). cond b (offsetOf ed ss (n - lengthOf ed s)) n) (lt-leb (lengthOf ed s) n h))
 
     pub held-past : lengthOf ed s ≤ n → (heldOf ed (s ∷ ss) n ≡ heldOf ed ss (n - lengthOf ed s)) × (offsetOf ed (s ∷ ss) n ≡ offsetOf ed ss (n - lengthOf ed s))
-    unfolding heldOf offsetOf
-    held-past h = (
-      ap (λ (b : Bool). cond b (heldOf ed ss (n - lengthOf ed s)) (s ∷ ss)) (le-leb (lengthOf ed s) n h),
-      ap (λ (b : Bool). cond b (offsetOf ed ss (n - lengthOf ed s)) n) (le-leb (lengthOf ed s) n h),
-    )
+    unfolding offsetOf
+    held-past h =
+        (unsent-past (lengthOf ed) s ss n h, ap (λ (b : Bool). cond b (offsetOf ed ss (n - lengthOf ed s)) n) (le-leb (lengthOf ed s) n h))
 
   pub held-none-sent : (ss : List Sample) → (heldOf ed ss 0 ≡ ss) × (offsetOf ed ss 0 ≡ 0)
-  unfolding heldOf offsetOf
+  unfolding unsentOf offsetOf
   held-none-sent [] = (refl, refl)
   held-none-sent (s ∷ ss) = held-here s ss 0 (some-words s)
 
   -- what is left of all the words is what is left of the held samples' words
   pub drop-held : (ss : List Sample) (n : ℕ) → Sixteen ss → drop n (wordsOfAll ed ss) ≡ drop (offsetOf ed ss n) (wordsOfAll ed (heldOf ed ss n))
-  unfolding wordsOfAll heldOf offsetOf
+  unfolding wordsOfAll unsentOf offsetOf
   drop-held [] n h = refl
   drop-held (s ∷ ss) n h = go (leb (lengthOf ed s) n) refl (drop-held ss (n - lengthOf ed s) (h .1))
     where
@@ -118,7 +124,7 @@ module _ (ed : Edition) where
 
   -- one sample more is held behind the others
   pub held-push : (ss : List Sample) (s : Sample) (n : ℕ) → n ≤ totalOf ed ss → (heldOf ed (ss ++ (s ∷ [])) n ≡ heldOf ed ss n ++ (s ∷ [])) × (offsetOf ed (ss ++ (s ∷ [])) n ≡ offsetOf ed ss n)
-  unfolding totalOf heldOf offsetOf
+  unfolding totalOf unsentOf offsetOf
   held-push [] s n h =
       let none : n ≡ 0 = omega arith in
       let here = held-here s [] n (subst (λ (k : ℕ). k < lengthOf ed s) (sym none) (some-words s)) in
@@ -131,7 +137,7 @@ module _ (ed : Edition) where
 
   -- nothing is held once all words are sent
   pub held-none : (ss : List Sample) (n : ℕ) → totalOf ed ss ≤ n → heldOf ed ss n ≡ []
-  unfolding totalOf heldOf
+  unfolding totalOf unsentOf
   held-none [] n h = refl
   held-none (s ∷ ss) n h = held-past s ss n (omega arith) .0 ∙ held-none ss (n - lengthOf ed s) (omega arith)
 
@@ -191,7 +197,7 @@ module _ (ed : Edition) where
 
   -- the held samples are among those taken
   pub sixteen-held : (ss : List Sample) (n : ℕ) → Sixteen ss → Sixteen (heldOf ed ss n)
-  unfolding heldOf
+  unfolding unsentOf
   sixteen-held [] n h = tt
   sixteen-held (s ∷ ss) n h = go (leb (lengthOf ed s) n) (sixteen-held ss (n - lengthOf ed s) (h .1))
     where
@@ -213,7 +219,7 @@ module _ (ed : Edition) where
   total-bound (s ∷ ss) = rw suc-mul (omega (arith, longest s, total-bound ss))
 
   pub left-bound : (ss : List Sample) (n : ℕ) → totalOf ed ss - n ≤ length (heldOf ed ss n) * sampleLength (widths ed) true
-  unfolding totalOf heldOf
+  unfolding totalOf unsentOf
   left-bound [] n = omega arith
   left-bound (s ∷ ss) n = go (leb (lengthOf ed s) n) refl (left-bound ss (n - lengthOf ed s))
     where

@@ -19,7 +19,7 @@ use Rattle.queue.specs.Queue.{advanced, anyResource, busy, emptyQueue, firstCou
 use Rattle.queue.specs.declared.queue.Held.{Held}
 use Rattle.queue.specs.declared.queue.Queue.{Queue}
 use Rattle.queue.proofs.BoundLaws.{bounds-back}
-use Rattle.history.specs.Stream.{anyHeld, heldOf, isFull, lengthOf, totalOf, wordsOfAll}
+use Rattle.history.specs.Stream.{anyHeld, heldOf, isFull, lengthOf, totalOf, unsentOf, wordsOfAll}
 use Rattle.history.proofs.HeldLaws.{Next, Sixteen, drop-held, held-none, held-push, layout-length, left-bound, next-word, offset-all, offsetOf, sixteen-held, total-more, words-left, words-length, words-total}
 
 -- the queue holds what the list says
@@ -71,7 +71,7 @@ shadows-free sh sh′ (h ∷ hs) e = go (resource (h .header)) refl e (shadows-f
 
 module _ (ed : Edition) where
   pub holds-empty : (sh : List ℕ) → Holds ed [] 0 sh emptyQueue
-  unfolding heldOf offsetOf totalOf
+  unfolding unsentOf offsetOf totalOf
   holds-empty sh = record { eight = refl; few = omega arith; same = refl; place = refl; enough = omega arith }
 
   module _ (taken : List Sample) (n : ℕ) (sh : List ℕ) (q : Queue) (holds : Holds ed taken n sh q) where

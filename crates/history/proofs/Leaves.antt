@@ -1,7 +1,7 @@
 -- What an operation can leave of a ledger: what is so of each of these ledgers is so of whatever the operation leaves, and after a list. Said once for
 -- all properties P of a ledger and a yes or no that is followed beside it. By the ledger's tests of addresses, settings and lines. Assumes nothing.
 use Prim.Native.Nat.{ℕ, _%_, _<_}
-use mathlib.Core.Path.{_≡_, refl, sym, subst}
+use mathlib.Core.Path.{_≡_, refl, sym, _∙_, subst}
 use mathlib.Core.Bool.{Bool, true, false, cond, false≢true}
 use mathlib.Core.List.{List, [], _∷_}
 use lib.Dec.{eqb, leb, ltb}
@@ -9,7 +9,7 @@ use borrow.Author.Tests.{eqb-true, ltb-true}
 use Rattle.samples.specs.declared.sample.Sample.{Sample}
 use Rattle.chip.specs.Operation.{Operation, opReset, opWrite, opRead, opTicks, opNodes, opEvents, opSend, opFill}
 use Rattle.chip.proofs.ChipLaws.{either}
-use Rattle.history.specs.Ledger.{Counter, Entry, Errors, Fate, Ledger, afterAll, afterFate, afterOne, byFate, byRange, configured, each, entryOf, fateIn, filtering, held, ledgerFrom, left, lineIn, lostCleared, readIn, readLow, resetAt, tells, triggered, vacant, waitedOne, waitsCleared, wasFiltered, wasLost, wasOff, wasTaken, wasTold, withErrors, withSettings, withSources, withStream, withTicks, written, writtenLow}
+use Rattle.history.specs.Ledger.{Counter, Entry, Errors, Fate, Ledger, afterAll, afterFate, afterOne, byFate, byRange, configured, each, entryOf, fateIn, filtering, held, ledgerFrom, left, lineIn, lostCleared, readIn, readLow, resetAt, sentMore, tells, triggered, vacant, waitedOne, waitsCleared, wasFiltered, wasLost, wasOff, wasTaken, wasTold, withErrors, withSettings, withSources, withStream, withTicks, written, writtenLow}
 use Rattle.history.specs.Stream.{anyHeld}
 
 -- a trigger's fate leaves the ledger, other errors, or one sample more
@@ -26,12 +26,18 @@ module _ (P : Ledger → Bool → Type 0) (l : Ledger) (b : Bool) (h : P l b) wh
   abbrev Leaves : Entry → Type 0
   Leaves e = P (e .ledger) b
 
+  -- what a test leaves, by what it says
+  tested : (z : Bool) (x y : Entry) → (z ≡ true → Leaves x) → (z ≡ false → Leaves y) → Leaves (cond z x y)
+  tested true x y p q = p refl
+  tested false x y p q = q refl
+
   -- an address leaves the ledger, or what its range of the map does
-  range-leaves : (a : ℕ) (trigger counter source register : Entry) → Leaves trigger → Leaves counter → Leaves source → Leaves register → Leaves (byRange a l trigger counter source register)
+  range-leaves : (a : ℕ) (trigger counter source register : Entry) → (ltb 127 a ≡ false → leb 96 a ≡ true → Leaves trigger) → Leaves counter → Leaves source → Leaves register → Leaves (byRange a l trigger counter source register)
   unfolding byRange
   range-leaves a t c s r p q o w =
-      either Leaves (ltb 127 a) _ _ h
-      (either Leaves (vacant a) _ _ h (either Leaves (leb 96 a) _ _ p (either Leaves (leb 32 a) _ _ q (either Leaves (leb 16 a) _ _ o w))))
+      tested (ltb 127 a) _ _ (λ e. h)
+      (λ within.
+      either Leaves (vacant a) _ _ h (tested (leb 96 a) _ _ (p within) (λ e. either Leaves (leb 32 a) _ _ q (either Leaves (leb 16 a) _ _ o w))))
 
   -- a trigger leaves the ledger, or what its fate does where one line is active
   trigger-leaves : (resource : Bool) (level bits lines : ℕ) → (lineIn lines < 8 → P (afterFate (fateIn resource level l) resource (lineIn lines) bits l) b) → Leaves (triggered resource level bits lines l)
@@ -43,10 +49,10 @@ module _ (P : Ledger → Bool → Type 0) (l : Ledger) (b : Bool) (h : P l b) wh
       go false e = h
 
   -- a read leaves the ledger, or one wait more
-  read-leaves : (a : ℕ) → P (withErrors (waitedOne (l .errors)) l) b → Leaves (readIn a l)
+  pub read-leaves : (a : ℕ) → P (withErrors (waitedOne (l .errors)) l) b → Leaves (readIn a l)
   unfolding readIn readLow
   read-leaves a w =
-      range-leaves a _ _ _ _ h (either Leaves (anyHeld (held l)) _ _ (either Leaves (l .settings .readwait) _ _ w h) h) h
+      range-leaves a _ _ _ _ (λ e d. h) (either Leaves (anyHeld (held l)) _ _ (either Leaves (l .settings .readwait) _ _ w h) h) h
       (either Leaves (eqb a 1) _ _ h
       (either Leaves (eqb a 2) _ _ h
       (either Leaves (eqb a 4) _ _ h
@@ -55,27 +61,26 @@ module _ (P : Ledger → Bool → Type 0) (l : Ledger) (b : Bool) (h : P l b) wh
       (either Leaves (eqb a 8) _ _ h
       (either Leaves (eqb a 11) _ _ h h)))))))
 
-  -- with the yes or no as it was: another Filter (f), no waits (w), no losses (o), other counters (c), other Source Addresses (s), what a trigger's
-  -- fate leaves (t)
-  module _ (bits : ℕ) (f : P (withSettings (filtering bits (l .settings)) l) b) (w : P (withErrors (waitsCleared (l .errors)) l) b) (o : P (withErrors (lostCleared (l .errors)) l) b) (c : (g : ℕ → Counter → Counter) → P (each g l) b) (s : (xs : List ℕ) → P (withSources xs l) b) (t : (resource : Bool) (level line : ℕ) → line < 8 → P (afterFate (fateIn resource level l) resource line bits l) b) where
-    other-leaves : (a lines : ℕ) → eqb a 0 ≡ false → eqb a 1 ≡ false → Leaves (written a bits lines l)
-    unfolding written writtenLow
-    other-leaves a lines n m =
-        range-leaves a _ _ _ _ (trigger-leaves (leb 112 a) (a % 16) bits lines (t (leb 112 a) (a % 16) (lineIn lines))) (c _) (s _)
-        (never (eqb a 0) _ _ n
-        (never (eqb a 1) _ _ m
-        (either Leaves (eqb a 2) _ _ h
-        (either Leaves (eqb a 4) _ _ f
-        (either Leaves (eqb a 5) _ _ w
-        (either Leaves (eqb a 6) _ _ o
-        (either Leaves (eqb a 8) _ _ (c _)
-        (either Leaves (eqb a 10) _ _ (c _)
-        (either Leaves (eqb a 11) _ _ (c _) (c _))))))))))
-      where
-        never : (z : Bool) (x y : Entry) → z ≡ false → Leaves y → Leaves (cond z x y)
-        never true x y e q = absurd (false≢true (sym e))
-        never false x y e q = q
+  -- with the yes or no as it was: no waits (w), no losses (o), other counters (c), other Source Addresses (s), another Filter (f) where that is written,
+  -- what a trigger's fate leaves (t) where there is one
+  pub other-leaves : (bits : ℕ) → P (withErrors (waitsCleared (l .errors)) l) b → P (withErrors (lostCleared (l .errors)) l) b → ((g : ℕ → Counter → Counter) → P (each g l) b) → ((xs : List ℕ) → P (withSources xs l) b) → (a lines : ℕ) → eqb a 0 ≡ false → eqb a 1 ≡ false → (eqb a 4 ≡ true → P (withSettings (filtering bits (l .settings)) l) b) → (ltb 127 a ≡ false → leb 96 a ≡ true → lineIn lines < 8 → P (afterFate (fateIn (leb 112 a) (a % 16) l) (leb 112 a) (lineIn lines) bits l) b) → Leaves (written a bits lines l)
+  unfolding written writtenLow
+  other-leaves bits w o c s a lines n m f t =
+      range-leaves a _ _ _ _ (λ e d. trigger-leaves (leb 112 a) (a % 16) bits lines (t e d)) (c _) (s _)
+      (tested (eqb a 0) _ _ (λ e. absurd (false≢true (sym n ∙ e)))
+      (λ e.
+      tested (eqb a 1) _ _ (λ d. absurd (false≢true (sym m ∙ d)))
+      (λ d.
+      either Leaves (eqb a 2) _ _ h
+      (tested (eqb a 4) _ _ f
+      (λ k.
+      either Leaves (eqb a 5) _ _ w
+      (either Leaves (eqb a 6) _ _ o
+      (either Leaves (eqb a 8) _ _ (c _)
+      (either Leaves (eqb a 10) _ _ (c _)
+      (either Leaves (eqb a 11) _ _ (c _) (c _))))))))))
 
+  module _ (bits : ℕ) (f : P (withSettings (filtering bits (l .settings)) l) b) (w : P (withErrors (waitsCleared (l .errors)) l) b) (o : P (withErrors (lostCleared (l .errors)) l) b) (c : (g : ℕ → Counter → Counter) → P (each g l) b) (s : (xs : List ℕ) → P (withSources xs l) b) (t : (resource : Bool) (level line : ℕ) → line < 8 → P (afterFate (fateIn resource level l) resource line bits l) b) where
     -- a write by its address: at 0 what a reset leaves, at 1 other settings, and else one of these
     pub write-leaves : (zero one : Bool) → P (resetAt (l .clock) (l .hundredth)) zero → P (withSettings (configured bits (l .settings)) l) one → (a lines : ℕ) → P (written a bits lines l .ledger) (cond (eqb a 0) zero (cond (eqb a 1) one b))
     unfolding written writtenLow byRange vacant
@@ -84,10 +89,10 @@ module _ (P : Ledger → Bool → Type 0) (l : Ledger) (b : Bool) (h : P l b) wh
         go : (x y : Bool) → eqb a 0 ≡ x → eqb a 1 ≡ y → P (written a bits lines l .ledger) (cond x zero (cond y one b))
         go true y e d = subst (λ (i : ℕ). P (written i bits lines l .ledger) zero) (sym (eqb-true a 0 e)) n
         go false true e d = subst (λ (i : ℕ). P (written i bits lines l .ledger) one) (sym (eqb-true a 1 d)) k
-        go false false e d = other-leaves a lines e d
+        go false false e d = other-leaves bits w o c s a lines e d (λ k. f) (λ x y. t (leb 112 a) (a % 16) (lineIn lines))
 
   -- an operation: what a hardware reset and a write leave, or one wait more, other counters, with ticks or without, or words sent
-  pub one-leaves : (reset : Bool → Bool) (write : ℕ → ℕ → Bool → Bool) → ((hundredth : Bool) → P (resetAt 0 hundredth) (reset hundredth)) → ((a bits lines : ℕ) → P (written a bits lines l .ledger) (write a bits b)) → P (withErrors (waitedOne (l .errors)) l) b → ((g : ℕ → Counter → Counter) → P (each g l) b) → ((k : ℕ) (g : ℕ → Counter → Counter) → P (withTicks k (each g l)) b) → ((n : ℕ) → P (withStream (l .taken) n l) b) → (op : Operation) → P (entryOf op l .ledger) (afterOne reset write op b)
+  pub one-leaves : (reset : Bool → Bool) (write : ℕ → ℕ → Bool → Bool) → ((hundredth : Bool) → P (resetAt 0 hundredth) (reset hundredth)) → ((a bits lines : ℕ) → P (written a bits lines l .ledger) (write a bits b)) → P (withErrors (waitedOne (l .errors)) l) b → ((g : ℕ → Counter → Counter) → P (each g l) b) → ((k : ℕ) (g : ℕ → Counter → Counter) → P (withTicks k (each g l)) b) → ((room : ℕ) → P (sentMore room l) b) → (op : Operation) → P (entryOf op l .ledger) (afterOne reset write op b)
   unfolding entryOf afterOne
   one-leaves reset write r v w c k n (opReset hundredth) = r hundredth
   one-leaves reset write r v w c k n (opWrite address bits lines) = v address bits lines

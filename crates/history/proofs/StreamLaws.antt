@@ -1,89 +1,56 @@
 -- The words that the chip gave, and those it will give, are those of the ledger's samples. Assumes nothing.
-use Prim.Native.Nat.{ℕ, zero, suc, _+_, _%_, _≤_, _<_, min}
+use Prim.Native.Nat.{ℕ, zero, suc, _+_, _≤_, _<_, min}
 use native.Mathlib.Omega.{arith}
 use mathlib.Core.Path.{_≡_, refl, sym, ap, ap₂, _∙_, subst}
-use mathlib.Core.Bool.{Bool, true, false, cond}
+use mathlib.Core.Bool.{Bool, true, false, cond, false≢true}
 use mathlib.Core.List.{List, [], _∷_, _++_, append-nil}
-use lib.Dec.{eqb, leb, ltb}
+use lib.Dec.{eqb}
 use lib.ListN.{length, take, drop, getD, replicate, length-replicate, drop-of-length-le}
 use lib.Seq.{drop-cons, take-add, take-append-le, take-at, take-suc}
 use borrow.Author.Tests.{eqb-true, eqb-false}
 use Rattle.samples.specs.Layout.{sampleWords, widths}
 use Rattle.samples.specs.declared.edition.Edition.the-variants.{First}
-use Rattle.samples.specs.declared.sample.Sample.{Sample}
 use Rattle.queue.specs.Queue.{sendBuffer, sendWords}
 use Rattle.queue.specs.declared.queue.Queue.{Queue}
 use Rattle.chip.specs.Chip.{inside, sentBuffer}
 use Rattle.chip.specs.Operation.{Operation, opReset, opWrite, opRead, opTicks, opNodes, opEvents, opSend, opFill, step}
 use Rattle.chip.specs.declared.chip.Chip.{Chip}
 use Rattle.chip.proofs.ChipLaws.{either as chip·either}
-use Rattle.history.specs.Ledger.{Entry, Fate, Ledger, afterFate, byFate, byRange, fateIn, held, left, lineIn, readIn, readLow, sampleIn, sentMore, tells, entryOf, triggered, vacant, wasFiltered, wasLost, wasOff, wasTaken, wasTold, written, writtenLow}
+use Rattle.history.specs.Ledger.{Entry, Fate, Ledger, afterFate, byRange, fateIn, left, readIn, sampleIn, sentMore, tells, entryOf, vacant, wasFiltered, wasLost, wasOff, wasTaken, wasTold, written, writtenLow}
 use Rattle.history.specs.Run.{comeWithin, streamAfter}
-use Rattle.history.specs.Stream.{anyHeld, wordsOfAll}
+use Rattle.history.specs.Stream.{wordsOfAll}
 use Rattle.history.proofs.Agrees.{Agrees, Kept, chipFor, for-inside}
 use Rattle.history.proofs.HeldLaws.{words-more, words-total}
 use Rattle.history.proofs.HoldsLaws.{many, many-count}
+use Rattle.history.proofs.Leaves.{read-leaves, write-leaves}
 use Rattle.history.proofs.Steps.{agrees-step}
 
 -- ---- the words sent so far
 
--- an entry that leaves them as they were
-record Stays (l : Ledger) (e : Entry) : Type 0 where
-  is : take (e .ledger .sent) (wordsOfAll First (e .ledger .taken)) ≡ take (l .sent) (wordsOfAll First (l .taken))
-
--- whatever a test says
-either : {l : Ledger} {x y : Entry} (b : Bool) → Stays l x → Stays l y → Stays l (cond b x y)
-either {l} {x} {y} b p r = chip·either (Stays l) b x y p r
-
-stay : (l : Ledger) (e : Entry) → e .ledger .taken ≡ l .taken → e .ledger .sent ≡ l .sent → Stays l e
-stay l e t n = record { is = ap₂ (λ (k : ℕ) (ss : List Sample). take k (wordsOfAll First ss)) n t }
+-- a ledger that has the same ones
+abbrev Stays : Ledger → Ledger → Type 0
+Stays l m = take (m .sent) (wordsOfAll First (m .taken)) ≡ take (l .sent) (wordsOfAll First (l .taken))
 
 -- what a fate leaves of the stream
-fate-stream : (f : Fate) (r : Bool) (line bits : ℕ) (l : Ledger) → l .sent ≤ length (wordsOfAll First (l .taken)) → Stays l (byFate f r line bits l)
+fate-stream : (f : Fate) (r : Bool) (line bits : ℕ) (l : Ledger) → l .sent ≤ length (wordsOfAll First (l .taken)) → Stays l (afterFate f r line bits l)
 unfolding afterFate
-fate-stream wasOff r line bits l h = stay l _ refl refl
-fate-stream wasFiltered r line bits l h = stay l _ refl refl
-fate-stream wasLost r line bits l h = stay l _ refl refl
-fate-stream wasTold r line bits l h = stay l _ refl refl
+fate-stream wasOff r line bits l h = refl
+fate-stream wasFiltered r line bits l h = refl
+fate-stream wasLost r line bits l h = refl
+fate-stream wasTold r line bits l h = refl
 fate-stream wasTaken r line bits l h =
-    record { is = ap (take (l .sent)) (words-more First (l .taken) (sampleIn r line bits l)) ∙ take-append-le (l .sent) (wordsOfAll First (l .taken)) (sampleWords (widths First) (sampleIn r line bits l)) h }
-
-trigger-stream : (r : Bool) (level bits lines : ℕ) (l : Ledger) → l .sent ≤ length (wordsOfAll First (l .taken)) → Stays l (triggered r level bits lines l)
-unfolding triggered
-trigger-stream r level bits lines l h = either (ltb (lineIn lines) 8) (fate-stream (fateIn r level l) r (lineIn lines) bits l h) (stay l _ refl refl)
+    ap (take (l .sent)) (words-more First (l .taken) (sampleIn r line bits l)) ∙ take-append-le (l .sent) (wordsOfAll First (l .taken)) (sampleWords (widths First) (sampleIn r line bits l)) h
 
 -- only the write at address 0 is a software reset
-write-stream : (a bits lines : ℕ) (l : Ledger) → eqb a 0 ≡ false → l .sent ≤ length (wordsOfAll First (l .taken)) → Stays l (written a bits lines l)
-unfolding written byRange writtenLow
+write-stream : (a bits lines : ℕ) (l : Ledger) → eqb a 0 ≡ false → l .sent ≤ length (wordsOfAll First (l .taken)) → Stays l (written a bits lines l .ledger)
 write-stream a bits lines l e h =
-    either (ltb 127 a) (stay l _ refl refl)
-    (either (vacant a) (stay l _ refl refl)
-    (either (leb 96 a) (trigger-stream (leb 112 a) (a % 16) bits lines l h)
-    (either (leb 32 a) (stay l _ refl refl) (either (leb 16 a) (stay l _ refl refl) (low e)))))
-  where
-    low : eqb a 0 ≡ false → Stays l (writtenLow a bits l)
-    low n =
-        rw n
-        (either (eqb a 1) (stay l _ refl refl)
-        (either (eqb a 2) (stay l _ refl refl)
-        (either (eqb a 4) (stay l _ refl refl)
-        (either (eqb a 5) (stay l _ refl refl)
-        (either (eqb a 6) (stay l _ refl refl)
-        (either (eqb a 8) (stay l _ refl refl) (either (eqb a 10) (stay l _ refl refl) (either (eqb a 11) (stay l _ refl refl) (stay l _ refl refl)))))))))
+    write-leaves (λ m reset. reset ≡ false → Stays l m) l false (λ n. refl) bits (λ n. refl) (λ n. refl) (λ n. refl) (λ g n. refl) (λ xs n. refl)
+    (λ r level line small n. fate-stream (fateIn r level l) r line bits l h)
+    true false (λ n. absurd (false≢true (sym n))) (λ n. refl) a lines
+    (rw e (chip·either (λ b. b ≡ false) (eqb a 1) false false refl refl))
 
-read-stream : (a : ℕ) (l : Ledger) → Stays l (readIn a l)
-unfolding readIn byRange readLow
-read-stream a l =
-    either (ltb 127 a) (stay l _ refl refl)
-    (either (vacant a) (stay l _ refl refl)
-    (either (leb 96 a) (stay l _ refl refl)
-    (either (leb 32 a) (either (anyHeld (held l)) (either (l .settings .readwait) (stay l _ refl refl) (stay l _ refl refl)) (stay l _ refl refl))
-    (either (leb 16 a) (stay l _ refl refl)
-    (either (eqb a 1) (stay l _ refl refl)
-    (either (eqb a 2) (stay l _ refl refl)
-    (either (eqb a 4) (stay l _ refl refl)
-    (either (eqb a 5) (stay l _ refl refl)
-    (either (eqb a 6) (stay l _ refl refl) (either (eqb a 8) (stay l _ refl refl) (either (eqb a 11) (stay l _ refl refl) (stay l _ refl refl))))))))))))
+read-stream : (a : ℕ) (l : Ledger) → Stays l (readIn a l .ledger)
+read-stream a l = read-leaves (λ m b. Stays l m) l false refl a refl
 
 module _ (l : Ledger) (c : Chip) (a : Agrees l c) where
   sent-within : l .sent ≤ length (wordsOfAll First (l .taken))
@@ -139,8 +106,8 @@ module _ (l : Ledger) (c : Chip) (a : Agrees l c) where
     where
       go : (b : Bool) → eqb address 0 ≡ b → cond b [] ws ≡ take (written address bits lines l .ledger .sent) (wordsOfAll First (written address bits lines l .ledger .taken))
       go true t = ap (λ (x : ℕ). take (written x bits lines l .ledger .sent) (wordsOfAll First (written x bits lines l .ledger .taken))) (sym (eqb-true address 0 t))
-      go false t = e ∙ sym (write-stream address bits lines l t sent-within .is)
-  stream-step (opRead address) ws e = e ∙ sym (read-stream address l .is)
+      go false t = e ∙ sym (write-stream address bits lines l t sent-within)
+  stream-step (opRead address) ws e = e ∙ sym (read-stream address l)
   stream-step (opTicks k) ws e = e
   stream-step (opNodes k) ws e = e
   stream-step (opEvents mask) ws e = e

@@ -38,12 +38,12 @@ use Rattle.history.proofs.Walks.{Unlost, one-choice, one-unlost, reset-
 fresh-agrees : Agrees (resetAt 0 false) fresh
 fresh-agrees = record { queue = emptyQueue; shadows = replicate 16 0; is = reset-record 0 false; good = reset-good 0 false }
 
-run-agrees : (ops : List Operation) (l : Ledger) (c : Chip) → Agrees l c → Agrees (ledgerFrom l ops) (runFrom c ops)
+pub run-agrees : (ops : List Operation) (l : Ledger) (c : Chip) → Agrees l c → Agrees (ledgerFrom l ops) (runFrom c ops)
 unfolding ledgerFrom runFrom
 run-agrees [] l c a = a
 run-agrees (op ∷ ops) l c a = run-agrees ops (entryOf op l .ledger) (step op c .chip) (agrees-step op l c a .agrees)
 
-agrees : (ops : List Operation) → Agrees (ledgerOf ops) (chipOf ops)
+pub agrees : (ops : List Operation) → Agrees (ledgerOf ops) (chipOf ops)
 agrees ops = run-agrees ops (resetAt 0 false) fresh fresh-agrees
 
 run-stream : (ops : List Operation) (l : Ledger) (c : Chip) (ws : List ℕ) → Agrees l c → ws ≡ take (l .sent) (wordsOfAll First (l .taken)) → sentFrom c ws ops ≡ take (ledgerFrom l ops .sent) (wordsOfAll First (ledgerFrom l ops .taken))
@@ -62,15 +62,17 @@ pub reply-said : (ops : List Operation) (op : Operation) → (step op (chipOf op
 reply-said ops op = let k = agrees-step op (ledgerOf ops) (chipOf ops) (agrees ops) in (k .number, k .value)
 
 -- so each unrefused trigger's reply is that of its fate: from 112 on it is a Resource trigger, and its level is the address modulo 16
-pub trigger-fate : (ops : List Operation) (address bits lines : ℕ) → 96 ≤ address → address ≤ 127 → lineIn lines < 8 → step (opWrite address bits lines) (chipOf ops) .number ≡ fateNumber (fateIn (leb 112 address) (address % 16) (ledgerOf ops))
+pub fate-said : (l : Ledger) (c : Chip) → Agrees l c → (address bits lines : ℕ) → 96 ≤ address → address ≤ 127 → lineIn lines < 8 → step (opWrite address bits lines) c .number ≡ fateNumber (fateIn (leb 112 address) (address % 16) l)
 unfolding entryOf written triggered
-trigger-fate ops address bits lines p h e =
-    let l : Ledger = ledgerOf ops in
+fate-said l c a address bits lines p h e =
     let r : Bool = leb 112 address in
     let f : Fate = fateIn r (address % 16) l in
-    reply-said ops (opWrite address bits lines) .0
+    agrees-step (opWrite address bits lines) l c a .number
     ∙ ap (λ (x : Entry). x .number) (range-trigger address l _ _ _ _ p h)
     ∙ ap (λ (b : Bool). cond b (byFate f r (lineIn lines) bits l) (tells 4 0 l) .number) (lt-ltb (lineIn lines) 8 e)
+
+pub trigger-fate : (ops : List Operation) (address bits lines : ℕ) → 96 ≤ address → address ≤ 127 → lineIn lines < 8 → step (opWrite address bits lines) (chipOf ops) .number ≡ fateNumber (fateIn (leb 112 address) (address % 16) (ledgerOf ops))
+trigger-fate ops = fate-said (ledgerOf ops) (chipOf ops) (agrees ops)
 
 -- ---- 2. The words sent since the last reset, then the words still to come, are the words of the samples taken since then
 
@@ -92,10 +94,14 @@ come-enough ops more =
     ∙ take-all (640 + more) (drop (ledgerOf ops .sent) (wordsOfAll First (ledgerOf ops .taken))) (omega (arith, left-few ops))
     ∙ sym (to-come ops)
 
-pub word-sum : (ops : List Operation) → sentOf ops ++ toCome (chipOf ops) ≡ wordsOfAll First (ledgerOf ops .taken)
+-- the first of these are sent
+pub sent-words : (ops : List Operation) → sentOf ops ≡ take (ledgerOf ops .sent) (wordsOfAll First (ledgerOf ops .taken))
 unfolding wordsOfAll
+sent-words ops = run-stream ops (resetAt 0 false) fresh [] fresh-agrees refl
+
+pub word-sum : (ops : List Operation) → sentOf ops ++ toCome (chipOf ops) ≡ wordsOfAll First (ledgerOf ops .taken)
 word-sum ops =
-    ap₂ (λ (x y : List ℕ). x ++ y) (run-stream ops (resetAt 0 false) fresh [] fresh-agrees refl) (to-come ops)
+    ap₂ (λ (x y : List ℕ). x ++ y) (sent-words ops) (to-come ops)
     ∙ take-append-drop (ledgerOf ops .sent) (wordsOfAll First (ledgerOf ops .taken))
 
 -- ---- 3. So their number is 16 for each Trace and 80 for each Resource sample taken

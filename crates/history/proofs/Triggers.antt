@@ -49,7 +49,7 @@ Roomy wasTold b = Unit {0}
 Roomy wasTaken b = b ≡ false
 
 -- settings, level and room give both the same fate, and a trigger that is taken lacks no room
-abbrev fateBy : Bool → Bool → Bool → Bool → Fate
+abbrev pub fateBy : Bool → Bool → Bool → Bool → Fate
 fateBy s p r w = cond s (cond p (cond r (cond w wasTold wasLost) wasTaken) wasFiltered) wasOff
 
 fate-by : (s p r w : Bool) → (fate s p r w ≡ chipFate (fateBy s p r w)) × Roomy (fateBy s p r w) r
@@ -60,7 +60,7 @@ fate-by true false r w = (refl, tt)
 fate-by false p r w = (refl, tt)
 
 -- the header's bits as numbers
-header-same : (line : ℕ) (r m : Bool) → headerOf line r m ≡ line + cond r 8 0 + cond m 16 0
+pub header-same : (line : ℕ) (r m : Bool) → headerOf line r m ≡ line + cond r 8 0 + cond m 16 0
 header-same line true true = refl
 header-same line true false = refl
 header-same line false true = refl

@@ -33,10 +33,14 @@ Every P (s ∷ ss) = P s × Every P ss
 abbrev pub Unmarked : Sample → Type 0
 Unmarked s = s .header < 16
 
--- "A sample is held from its trigger until its last word is sent": of the samples taken, those not wholly among the n words sent
-unfoldable pub heldOf : Edition → List Sample → ℕ → List Sample
-heldOf ed [] n = []
-heldOf ed (s ∷ ss) n = cond (leb (lengthOf ed s) n) (heldOf ed ss (n - lengthOf ed s)) (s ∷ ss)
+-- "A sample is held from its trigger until its last word is sent": of the samples taken, those not wholly among the n words sent; over any length
+-- of a sample, for the law of document 02, Wish 8
+unfoldable pub unsentOf : {A : Type 0} → (A → ℕ) → List A → ℕ → List A
+unsentOf len [] n = []
+unsentOf len (s ∷ ss) n = cond (leb (len s) n) (unsentOf len ss (n - len s)) (s ∷ ss)
+
+abbrev pub heldOf : Edition → List Sample → ℕ → List Sample
+heldOf ed = unsentOf (lengthOf ed)
 
 -- "The shadows are busy while a Resource sample is held"
 unfoldable pub anyHeld : List Sample → Bool
