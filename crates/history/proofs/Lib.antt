@@ -5,8 +5,11 @@ pub mod CountLaws
 pub mod HeldLaws
 pub mod HoldsLaws
 pub mod Leaves
+pub mod Single
 pub mod Steps
 pub mod StreamLaws
 pub mod Theorems
 pub mod Triggers
+pub mod WaitLaws
+pub mod Waiting
 pub mod Walks

@@ -1,3 +1,4 @@
 pub mod Ledger
 pub mod Run
 pub mod Stream
+pub mod Waiting
