@@ -9,10 +9,12 @@ mod resets;
 mod same;
 mod sending;
 mod steps;
+mod waiting;
 
 fn main() {
     every_register();
     every_trigger();
+    every_wait();
     every_count();
     resets::software_reset();
     resets::phase_after_reset();
@@ -51,6 +53,14 @@ fn every_trigger() {
     queueing::lines_and_sources();
     queueing::fixed_at_trigger();
     queueing::kept_from_reads();
+}
+
+fn every_wait() {
+    waiting::trace();
+    waiting::in_between();
+    waiting::resource();
+    waiting::resource_by_buffers();
+    waiting::nothing_left();
 }
 
 fn every_count() {

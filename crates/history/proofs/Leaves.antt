@@ -9,8 +9,9 @@ use borrow.Author.Tests.{eqb-true, ltb-true}
 use Rattle.samples.specs.declared.sample.Sample.{Sample}
 use Rattle.chip.specs.Operation.{Operation, opReset, opWrite, opRead, opTicks, opNodes, opEvents, opSend, opFill}
 use Rattle.chip.proofs.ChipLaws.{either}
-use Rattle.history.specs.Ledger.{Counter, Entry, Errors, Fate, Ledger, afterAll, afterFate, afterOne, byFate, byRange, configured, each, entryOf, fateIn, filtering, held, ledgerFrom, left, lineIn, lostCleared, readIn, readLow, resetAt, sentMore, tells, triggered, vacant, waitedOne, waitsCleared, wasFiltered, wasLost, wasOff, wasTaken, wasTold, withErrors, withSettings, withSources, withStream, withTicks, written, writtenLow}
+use Rattle.history.specs.Ledger.{Counter, Entry, Errors, Fate, Ledger, afterAll, afterFate, afterOne, byFate, byRange, configured, each, entryOf, fateIn, filtering, held, ledgerFrom, lineIn, lostCleared, readIn, readLow, resetAt, sentMore, tells, triggered, vacant, waitedOne, waitsCleared, wasFiltered, wasLost, wasOff, wasTaken, wasTold, withErrors, withSettings, withSources, withStream, withTicks, written, writtenLow}
 use Rattle.history.specs.Stream.{anyHeld}
+use Rattle.history.proofs.Steps.{send-leaves}
 
 -- a trigger's fate leaves the ledger, other errors, or one sample more
 pub fate-leaves : (P : Ledger → Type 0) (l : Ledger) → P l → ((e : Errors) → P (withErrors e l)) → ((ss : List Sample) (e : Errors) → P (withStream ss (l .sent) (withErrors e l))) → (f : Fate) (resource : Bool) (line bits : ℕ) → P (afterFate f resource line bits l)
@@ -100,7 +101,7 @@ module _ (P : Ledger → Bool → Type 0) (l : Ledger) (b : Bool) (h : P l b) wh
   one-leaves reset write r v w c k n (opTicks count) = k count _
   one-leaves reset write r v w c k n (opNodes count) = c _
   one-leaves reset write r v w c k n (opEvents mask) = c _
-  one-leaves reset write r v w c k n opSend = either Leaves (eqb (left l) 0) _ _ h (n _)
+  one-leaves reset write r v w c k n opSend = subst (λ (m : Ledger). P m b) (sym (send-leaves l)) (n 1)
   one-leaves reset write r v w c k n (opFill room) = n _
 
 -- and a list

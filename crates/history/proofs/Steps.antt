@@ -540,3 +540,22 @@ step-kept (opFill room) l q sh g = kept-guarded l q sh _ _ g (fill-kept l q sh g
 
 pub agrees-step : (op : Operation) (l : Ledger) (c : Chip) → Agrees l c → Kept (entryOf op l) (step op c)
 agrees-step op l c a = subst (λ (x : Chip). Kept (entryOf op l) (step op x)) (sym (a .is)) (step-kept op l (a .queue) (a .shadows) (a .good))
+
+-- ---- a single send, on the ledger and by its number
+pub send-leaves : (l : Ledger) → entryOf opSend l .ledger ≡ sentMore 1 l
+unfolding entryOf
+send-leaves l = go (eqb (left l) 0) refl
+  where
+    go : (b : Bool) → eqb (left l) 0 ≡ b → cond b (tells 5 0 l) (tells 0 (getD (wordsOfAll First (l .taken)) (l .sent) 0) (sentMore 1 l)) .ledger ≡ sentMore 1 l
+    go true e =
+        let none : l .sent ≡ l .sent + min 1 (left l) = omega (arith, eqb-true (left l) 0 e) in
+        ap (λ (n : ℕ). withStream (l .taken) n l) none
+    go false e = refl
+
+pub send-number : (l : Ledger) (c : Chip) → Agrees l c → step opSend c .number ≡ cond (eqb (left l) 0) 5 0
+unfolding entryOf
+send-number l c a = agrees-step opSend l c a .number ∙ go (eqb (left l) 0)
+  where
+    go : (b : Bool) → cond b (tells 5 0 l) (tells 0 (getD (wordsOfAll First (l .taken)) (l .sent) 0) (sentMore 1 l)) .number ≡ cond b 5 0
+    go true = refl
+    go false = refl

@@ -17,7 +17,7 @@ use Rattle.chip.specs.Place.{placeOf, registerOf}
 use Rattle.chip.specs.declared.chip.Chip.{Chip}
 use Rattle.chip.proofs.AddressLaws.{place-beyond, same, same-eq, upTo-at}
 use Rattle.chip.proofs.Refusals.{when-waiting}
-use Rattle.history.specs.Ledger.{Fate, Ledger, Settings, afterFate, afterOne, entryOf, fateIn, fateNumber, held, isSet, ledgerFrom, ledgerOf, left, lineIn, resetAt, sentMore, tells, wasTaken, wasTold, withStream}
+use Rattle.history.specs.Ledger.{Fate, Ledger, Settings, afterFate, afterOne, entryOf, fateIn, fateNumber, held, isSet, ledgerFrom, ledgerOf, left, lineIn, resetAt, sentMore, wasTaken, wasTold, withStream}
 use Rattle.history.specs.Run.{chipOf, runFrom, sentOf}
 use Rattle.history.specs.Stream.{anyHeld, heldOf, isBlocked, isFull, totalOf, wordsOfAll}
 use Rattle.history.specs.Waiting.{Between, EndsWithin, barred, enough, leavesAlone, mattersTo, mayCome, sentBy, waitedMore, within, wordsIn}
@@ -27,7 +27,7 @@ use Rattle.history.proofs.HoldsLaws.{held-count}
 use Rattle.history.proofs.Leaves.{other-leaves, read-leaves}
 use Rattle.history.proofs.WaitLaws.{lacks-said, stream-room}
 use Rattle.history.proofs.Single.{OneHeld, lacks, single}
-use Rattle.history.proofs.Steps.{agrees-step}
+use Rattle.history.proofs.Steps.{agrees-step, send-leaves, send-number}
 use Rattle.history.proofs.Theorems.{agrees, fate-said, run-agrees, sent-words}
 use Rattle.history.proofs.Triggers.{fateBy, or-left, or-right}
 
@@ -61,25 +61,7 @@ may-ask : (address bits lines : ℕ) → mayCome address (opWrite address bits l
 unfolding afterOne
 may-ask a bits lines = ap (λ (b : Bool). b || not (barred a)) (eq-eqb a a refl)
 
--- a single send, on the ledger and by its number
-send-leaves : (l : Ledger) → entryOf opSend l .ledger ≡ sentMore 1 l
-unfolding entryOf
-send-leaves l = go (eqb (left l) 0) refl
-  where
-    go : (b : Bool) → eqb (left l) 0 ≡ b → cond b (tells 5 0 l) (tells 0 (getD (wordsOfAll First (l .taken)) (l .sent) 0) (sentMore 1 l)) .ledger ≡ sentMore 1 l
-    go true e =
-        let none : l .sent ≡ l .sent + min 1 (left l) = omega (arith, eqb-true (left l) 0 e) in
-        ap (λ (n : ℕ). withStream (l .taken) n l) none
-    go false e = refl
-
-send-number : (l : Ledger) (c : Chip) → Agrees l c → step opSend c .number ≡ cond (eqb (left l) 0) 5 0
-unfolding entryOf
-send-number l c a = agrees-step opSend l c a .number ∙ go (eqb (left l) 0)
-  where
-    go : (b : Bool) → cond b (tells 5 0 l) (tells 0 (getD (wordsOfAll First (l .taken)) (l .sent) 0) (sentMore 1 l)) .number ≡ cond b 5 0
-    go true = refl
-    go false = refl
-
+-- the words that a single send counts
 send-counts : (l : Ledger) (c : Chip) → Agrees l c → cond (eqb (step opSend c .number) 0) 1 0 ≡ min 1 (left l)
 send-counts l c a = ap (λ (n : ℕ). cond (eqb n 0) 1 0) (send-number l c a) ∙ go (eqb (left l) 0) refl
   where
