@@ -320,6 +320,12 @@ VERSIONS = {
             ('crates/chip/proofs/Resets.antt', '1 ∷ replicate 86 0', '0 ∷ replicate 86 0', 3),
             ('crates/chip/proofs/Resets.antt', 'done 4', 'done 0', 5),
         ], ['control', 'chip', 'marked'], [('history', 'reset-record')]),
+    'overrun_notices_a_wait': (
+        "document 02's Wish 8: a wait makes the Overrun Counter the Wait Counter's number", [
+            ('crates/control/src/control.rt', 'self.wait = next;', 'self.wait = next; self.overrun = next;'),
+            ('crates/control/specs/Control.antt', 'waited c = withErrors (grown (c .wait) 1) (c .overrun) c', 'waited c = withErrors (grown (c .wait) 1) (grown (c .wait) 1) c'),
+            ('crates/control/proofs/control/Control/waited/Proof.antt', 'withErrors n (s .overrun) s', 'withErrors n n s'),
+        ], ['control', 'chip', 'marked'], [('history', 'told')]),
 }
 
 

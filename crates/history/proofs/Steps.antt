@@ -84,6 +84,10 @@ csr-same full shadows l =
     flag n true = omega arith
     flag n false = omega arith
 
+-- a single send, by whether nothing is left
+abbrev pub sendEntry : Ledger → Bool → Entry
+sendEntry l none = cond none (tells 5 0 l) (tells 0 (getD (wordsOfAll First (l .taken)) (l .sent) 0) (sentMore 1 l))
+
 -- a reset record, whatever was before
 pub reset-record : (clock : ℕ) (hundredth : Bool) → withStamp (clock % 2 ^ 56) (withChoice hundredth fresh) ≡ chipFor (resetAt clock hundredth) emptyQueue (replicate 16 0)
 unfolding packed
@@ -493,22 +497,18 @@ module _ (l : Ledger) (q : Queue) (sh : List ℕ) (g : Good l q sh) where
       record { agrees = record { queue = q′; shadows = sh; is = e; good = record { holds = h; sixteen = g .sixteen; counters = g .counters } }; number = p; value = r }
 
   -- a single send
-  sendEntry : Bool → Entry
-  sendEntry none = cond none (tells 5 0 l) (tells 0 (getD (wordsOfAll First (l .taken)) (l .sent) 0) (sentMore 1 l))
-
-  send-kept : Kept (sendEntry (eqb (left l) 0)) (sendNow (chipFor l q sh))
-  unfolding sendEntry
+  send-kept : Kept (sendEntry l (eqb (left l) 0)) (sendNow (chipFor l q sh))
   send-kept = go (eqb (q .held) 0) refl
     where
-      go : (b : Bool) → eqb (q .held) 0 ≡ b → Kept (sendEntry (eqb (left l) 0)) (cond b (replied NoWord (chipFor l q sh)) (done (nextWord (widths First) sh q) (withQueue (advanced (widths First) q) (chipFor l q sh))))
+      go : (b : Bool) → eqb (q .held) 0 ≡ b → Kept (sendEntry l (eqb (left l) 0)) (cond b (replied NoWord (chipFor l q sh)) (done (nextWord (widths First) sh q) (withQueue (advanced (widths First) q) (chipFor l q sh))))
       go true e =
           let none : left l ≡ 0 = holds-none First (l .taken) (l .sent) sh q (g .holds) (eqb-true (q .held) 0 e) in
-          subst (λ (b : Bool). Kept (sendEntry b) (replied NoWord (chipFor l q sh))) (sym (eq-eqb (left l) 0 none)) (same 5 0 _ refl refl refl)
+          subst (λ (b : Bool). Kept (sendEntry l b) (replied NoWord (chipFor l q sh))) (sym (eq-eqb (left l) 0 none)) (same 5 0 _ refl refl refl)
       go false e =
           let f : q .held ≡ 0 → ⊥ = eqb-false (q .held) 0 e in
           let some : l .sent < totalOf First (l .taken) = holds-some First (l .taken) (l .sent) sh q (g .holds) f in
           let now : l .sent + 1 ≡ l .sent + min 1 (left l) = omega arith in
-          subst (λ (b : Bool). Kept (sendEntry b) (done (nextWord (widths First) sh q) (withQueue (advanced (widths First) q) (chipFor l q sh)))) (sym (ne-eqb (left l) 0 (λ z. omega arith)))
+          subst (λ (b : Bool). Kept (sendEntry l b) (done (nextWord (widths First) sh q) (withQueue (advanced (widths First) q) (chipFor l q sh)))) (sym (ne-eqb (left l) 0 (λ z. omega arith)))
           (sent-kept (min 1 (left l)) _ (advanced (widths First) q) _
           (subst (λ (n : ℕ). Holds First (l .taken) n sh (advanced (widths First) q)) now (holds-advanced First (l .taken) (l .sent) sh q (g .holds) (g .sixteen) f))
           refl
@@ -527,7 +527,7 @@ module _ (l : Ledger) (q : Queue) (sh : List ℕ) (g : Good l q sh) where
 
 -- every operation on a record that a ledger leaves
 pub step-kept : (op : Operation) (l : Ledger) (q : Queue) (sh : List ℕ) → Good l q sh → Kept (entryOf op l) (step op (chipFor l q sh))
-unfolding entryOf sendEntry withCounted write read timestampTicks nodeTicks externalEvents send sendInto
+unfolding entryOf withCounted write read timestampTicks nodeTicks externalEvents send sendInto
 step-kept (opReset hundredth) l q sh g =
     record { agrees = record { queue = emptyQueue; shadows = replicate 16 0; is = reset-record 0 hundredth; good = reset-good 0 hundredth }; number = refl; value = refl }
 step-kept (opWrite address bits lines) l q sh g = kept-guarded l q sh _ _ g (write-kept l q sh g bits lines address)
@@ -546,7 +546,7 @@ pub send-leaves : (l : Ledger) → entryOf opSend l .ledger ≡ sentMore 1 l
 unfolding entryOf
 send-leaves l = go (eqb (left l) 0) refl
   where
-    go : (b : Bool) → eqb (left l) 0 ≡ b → cond b (tells 5 0 l) (tells 0 (getD (wordsOfAll First (l .taken)) (l .sent) 0) (sentMore 1 l)) .ledger ≡ sentMore 1 l
+    go : (b : Bool) → eqb (left l) 0 ≡ b → sendEntry l b .ledger ≡ sentMore 1 l
     go true e =
         let none : l .sent ≡ l .sent + min 1 (left l) = omega (arith, eqb-true (left l) 0 e) in
         ap (λ (n : ℕ). withStream (l .taken) n l) none
@@ -556,6 +556,6 @@ pub send-number : (l : Ledger) (c : Chip) → Agrees l c → step opSend c .numb
 unfolding entryOf
 send-number l c a = agrees-step opSend l c a .number ∙ go (eqb (left l) 0)
   where
-    go : (b : Bool) → cond b (tells 5 0 l) (tells 0 (getD (wordsOfAll First (l .taken)) (l .sent) 0) (sentMore 1 l)) .number ≡ cond b 5 0
+    go : (b : Bool) → sendEntry l b .number ≡ cond b 5 0
     go true = refl
     go false = refl

@@ -5,7 +5,7 @@ use mathlib.Core.Path.{_≡_, refl, sym, ap, ap₂, _∙_, subst}
 use mathlib.Core.Bool.{Bool, true, false, cond, false≢true}
 use mathlib.Core.List.{List, [], _∷_, _++_, append-nil}
 use lib.Dec.{eqb}
-use lib.ListN.{length, take, drop, getD, replicate, length-replicate, drop-of-length-le}
+use lib.ListN.{length, take, drop, replicate, length-replicate, drop-of-length-le}
 use lib.Seq.{drop-cons, take-add, take-append-le, take-at, take-suc}
 use borrow.Author.Tests.{eqb-true, eqb-false}
 use Rattle.samples.specs.Layout.{sampleWords, widths}
@@ -16,14 +16,14 @@ use Rattle.chip.specs.Chip.{inside, sentBuffer}
 use Rattle.chip.specs.Operation.{Operation, opReset, opWrite, opRead, opTicks, opNodes, opEvents, opSend, opFill, step}
 use Rattle.chip.specs.declared.chip.Chip.{Chip}
 use Rattle.chip.proofs.ChipLaws.{either as chip·either}
-use Rattle.history.specs.Ledger.{Entry, Fate, Ledger, afterFate, byRange, fateIn, left, readIn, sampleIn, sentMore, tells, entryOf, vacant, wasFiltered, wasLost, wasOff, wasTaken, wasTold, written, writtenLow}
+use Rattle.history.specs.Ledger.{Fate, Ledger, afterFate, byRange, fateIn, left, readIn, sampleIn, entryOf, vacant, wasFiltered, wasLost, wasOff, wasTaken, wasTold, written, writtenLow}
 use Rattle.history.specs.Run.{comeWithin, streamAfter}
 use Rattle.history.specs.Stream.{wordsOfAll}
 use Rattle.history.proofs.Agrees.{Agrees, Kept, chipFor, for-inside}
 use Rattle.history.proofs.HeldLaws.{words-more, words-total}
 use Rattle.history.proofs.HoldsLaws.{many, many-count}
 use Rattle.history.proofs.Leaves.{read-leaves, write-leaves}
-use Rattle.history.proofs.Steps.{agrees-step}
+use Rattle.history.proofs.Steps.{agrees-step, sendEntry}
 
 -- ---- the words sent so far
 
@@ -64,10 +64,7 @@ module _ (l : Ledger) (c : Chip) (a : Agrees l c) where
       k : Kept (entryOf opSend l) (step opSend c)
       k = agrees-step opSend l c a
 
-      told : Bool → Entry
-      told b = cond b (tells 5 0 l) (tells 0 (getD (wordsOfAll First (l .taken)) (l .sent) 0) (sentMore 1 l))
-
-      go : (b : Bool) → eqb (left l) 0 ≡ b → step opSend c .number ≡ told b .number → step opSend c .value ≡ told b .value → take (l .sent) (wordsOfAll First (l .taken)) ++ cond (eqb (step opSend c .number) 0) (step opSend c .value ∷ []) [] ≡ take (told b .ledger .sent) (wordsOfAll First (told b .ledger .taken))
+      go : (b : Bool) → eqb (left l) 0 ≡ b → step opSend c .number ≡ sendEntry l b .number → step opSend c .value ≡ sendEntry l b .value → take (l .sent) (wordsOfAll First (l .taken)) ++ cond (eqb (step opSend c .number) 0) (step opSend c .value ∷ []) [] ≡ take (sendEntry l b .ledger .sent) (wordsOfAll First (sendEntry l b .ledger .taken))
       go true e n v =
           ap (λ (x : ℕ). take (l .sent) (wordsOfAll First (l .taken)) ++ cond (eqb x 0) (step opSend c .value ∷ []) []) n
           ∙ append-nil (take (l .sent) (wordsOfAll First (l .taken)))
@@ -125,10 +122,7 @@ come-words (suc n) l c a = go (eqb (left l) 0) refl (k .number) (k .value) (come
     k : Kept (entryOf opSend l) (step opSend c)
     k = agrees-step opSend l c a
 
-    told : Bool → Entry
-    told b = cond b (tells 5 0 l) (tells 0 (getD (wordsOfAll First (l .taken)) (l .sent) 0) (sentMore 1 l))
-
-    go : (b : Bool) → eqb (left l) 0 ≡ b → step opSend c .number ≡ told b .number → step opSend c .value ≡ told b .value → comeWithin n (step opSend c .chip) ≡ take n (drop (told b .ledger .sent) (wordsOfAll First (told b .ledger .taken))) → cond (eqb (step opSend c .number) 5) [] (step opSend c .value ∷ comeWithin n (step opSend c .chip)) ≡ take (suc n) (drop (l .sent) (wordsOfAll First (l .taken)))
+    go : (b : Bool) → eqb (left l) 0 ≡ b → step opSend c .number ≡ sendEntry l b .number → step opSend c .value ≡ sendEntry l b .value → comeWithin n (step opSend c .chip) ≡ take n (drop (sendEntry l b .ledger .sent) (wordsOfAll First (sendEntry l b .ledger .taken))) → cond (eqb (step opSend c .number) 5) [] (step opSend c .value ∷ comeWithin n (step opSend c .chip)) ≡ take (suc n) (drop (l .sent) (wordsOfAll First (l .taken)))
     go true e m v ih =
         let none : drop (l .sent) (wordsOfAll First (l .taken)) ≡ [] =
         drop-of-length-le (wordsOfAll First (l .taken)) {i = l .sent} (subst (λ (x : ℕ). x ≤ l .sent) (sym (words-total First (l .taken) (a .good .sixteen))) (omega (arith, eqb-true (left l) 0 e))) in

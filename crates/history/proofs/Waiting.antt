@@ -69,73 +69,71 @@ send-counts l c a = ap (λ (n : ℕ). cond (eqb n 0) 1 0) (send-number l c a) �
     go true e = omega (arith, eqb-true (left l) 0 e)
     go false e = let f : left l ≡ 0 → ⊥ = eqb-false (left l) 0 e in omega arith
 
--- the trigger at an address
-module _ (address : ℕ) (from : 96 ≤ address) (upto : address ≤ 127) where
-  -- what a write that may come is not
-  module _ (a bits lines : ℕ) (may : mayCome address (opWrite a bits lines) ≡ true) where
-    quiet-write : (eqb a 0 ≡ false) × ((eqb a 1 ≡ false) × ((eqb a 4 ≡ false) × (ltb 127 a ≡ false → leb 96 a ≡ true → a ≡ address)))
-    unfolding afterOne
-    quiet-write = go (eqb a address) refl may
-      where
-        go : (b : Bool) → eqb a address ≡ b → (b || not (barred a)) ≡ true → (eqb a 0 ≡ false) × ((eqb a 1 ≡ false) × ((eqb a 4 ≡ false) × (ltb 127 a ≡ false → leb 96 a ≡ true → a ≡ address)))
-        go true e p =
-            let is : a ≡ address = eqb-true a address e in
-            (ne-eqb a 0 (λ z. omega arith), (ne-eqb a 1 (λ z. omega arith), (ne-eqb a 4 (λ z. omega arith), λ x y. is)))
-        go false e p =
-            let none : barred a ≡ false = not-true (barred a) p in
-            let others = or-right (eqb a 0) _ none in
-            let last = or-right (eqb a 1) _ others in
-            (or-left (eqb a 0) _ none, (or-left (eqb a 1) _ others, (or-left (eqb a 4) _ last, λ x y. absurd (false≢true (sym (or-right (eqb a 4) _ last) ∙ (λ i. y i && le-leb a 127 (ltb-false 127 a x) i))))))
+-- what a write that may come is not, while the trigger at an address waits
+quiet-write : (address a bits lines : ℕ) → 96 ≤ address → mayCome address (opWrite a bits lines) ≡ true → (eqb a 0 ≡ false) × ((eqb a 1 ≡ false) × ((eqb a 4 ≡ false) × (ltb 127 a ≡ false → leb 96 a ≡ true → a ≡ address)))
+unfolding afterOne
+quiet-write address a bits lines from may = go (eqb a address) refl may
+  where
+    go : (b : Bool) → eqb a address ≡ b → (b || not (barred a)) ≡ true → (eqb a 0 ≡ false) × ((eqb a 1 ≡ false) × ((eqb a 4 ≡ false) × (ltb 127 a ≡ false → leb 96 a ≡ true → a ≡ address)))
+    go true e p =
+        let is : a ≡ address = eqb-true a address e in
+        (ne-eqb a 0 (λ z. omega arith), (ne-eqb a 1 (λ z. omega arith), (ne-eqb a 4 (λ z. omega arith), λ x y. is)))
+    go false e p =
+        let none : barred a ≡ false = not-true (barred a) p in
+        let others = or-right (eqb a 0) _ none in
+        let last = or-right (eqb a 1) _ others in
+        (or-left (eqb a 0) _ none, (or-left (eqb a 1) _ others, (or-left (eqb a 4) _ last, λ x y. absurd (false≢true (sym (or-right (eqb a 4) _ last) ∙ (λ i. y i && le-leb a 127 (ltb-false 127 a x) i))))))
 
-  module _ (l : Ledger) (c : Chip) (agree : Agrees l c) (armed : Armed (address % 16) (l .settings)) where
-    none : Quiet l l 0
-    none = (refl, (refl, sym (add-zero (l .sent))))
+-- the trigger at an address, on a ledger and a chip that agree, with the settings under which it waits or is taken
+module _ (address : ℕ) (from : 96 ≤ address) (upto : address ≤ 127) (l : Ledger) (c : Chip) (agree : Agrees l c) (armed : Armed (address % 16) (l .settings)) where
+  none : Quiet l l 0
+  none = (refl, (refl, sym (add-zero (l .sent))))
 
-    -- asked again, and not taken, it changes neither settings nor samples nor words sent
-    asked-quiet : (bits lines : ℕ) → lineIn lines < 8 → eqb (step (opWrite address bits lines) c .number) 0 ≡ false → Quiet l (afterFate (fateIn (leb 112 address) (address % 16) l) (leb 112 address) (lineIn lines) bits l) 0
-    unfolding afterFate
-    asked-quiet bits lines one un = go (lacks r l) (armed-fate r (address % 16) l armed)
-      where
-        r : Bool
-        r = leb 112 address
+  -- asked again, and not taken, it changes neither settings nor samples nor words sent
+  asked-quiet : (bits lines : ℕ) → lineIn lines < 8 → eqb (step (opWrite address bits lines) c .number) 0 ≡ false → Quiet l (afterFate (fateIn (leb 112 address) (address % 16) l) (leb 112 address) (lineIn lines) bits l) 0
+  unfolding afterFate
+  asked-quiet bits lines one un = go (lacks r l) (armed-fate r (address % 16) l armed)
+    where
+      r : Bool
+      r = leb 112 address
 
-        go : (b : Bool) → fateIn r (address % 16) l ≡ cond b wasTold wasTaken → Quiet l (afterFate (fateIn r (address % 16) l) r (lineIn lines) bits l) 0
-        go true e = subst (λ (f : Fate). Quiet l (afterFate f r (lineIn lines) bits l) 0) (sym e) (refl, (refl, sym (add-zero (l .sent))))
-        go false e = absurd (false≢true (sym un ∙ eq-eqb _ 0 (fate-said l c agree address bits lines from upto one ∙ ap fateNumber e)))
+      go : (b : Bool) → fateIn r (address % 16) l ≡ cond b wasTold wasTaken → Quiet l (afterFate (fateIn r (address % 16) l) r (lineIn lines) bits l) 0
+      go true e = subst (λ (f : Fate). Quiet l (afterFate f r (lineIn lines) bits l) 0) (sym e) (refl, (refl, sym (add-zero (l .sent))))
+      go false e = absurd (false≢true (sym un ∙ eq-eqb _ 0 (fate-said l c agree address bits lines from upto one ∙ ap fateNumber e)))
 
-    one-quiet : (op : Operation) → mayCome address op ≡ true → ((bits lines : ℕ) → op ≡ opWrite address bits lines → eqb (step (opWrite address bits lines) c .number) 0 ≡ false) → Quiet l (entryOf op l .ledger) (sentBy op c)
-    unfolding afterOne entryOf sentBy
-    one-quiet (opReset hundredth) may un = absurd (false≢true may)
-    one-quiet (opWrite a bits lines) may un =
-        let not-these = quiet-write a bits lines may in
-        other-leaves (λ m b. Quiet l m 0) l false none bits none none (λ g. none) (λ xs. none) a lines (not-these .0) (not-these .1 .0)
-        (λ e. absurd (false≢true (sym (not-these .1 .1 .0) ∙ e)))
-        (λ x y one.
-        let is : a ≡ address = not-these .1 .1 .1 x y in
-        subst (λ (i : ℕ). Quiet l (afterFate (fateIn (leb 112 i) (i % 16) l) (leb 112 i) (lineIn lines) bits l) 0) (sym is)
-        (asked-quiet bits lines one (un bits lines (ap (λ (i : ℕ). opWrite i bits lines) is))))
-    one-quiet (opRead a) may un = read-leaves (λ m b. Quiet l m 0) l false none a none
-    one-quiet (opTicks k) may un = none
-    one-quiet (opNodes k) may un = none
-    one-quiet (opEvents mask) may un = none
-    one-quiet opSend may un =
-        subst (λ (m : Ledger). Quiet l m (cond (eqb (step opSend c .number) 0) 1 0)) (sym (send-leaves l))
-        (refl, (refl, ap (λ (x : ℕ). l .sent + x) (sym (send-counts l c agree))))
-    one-quiet (opFill room) may un = (refl, (refl, ap (λ (x : ℕ). l .sent + x) (sym (agrees-step (opFill room) l c agree .value))))
+  one-quiet : (op : Operation) → mayCome address op ≡ true → ((bits lines : ℕ) → op ≡ opWrite address bits lines → eqb (step (opWrite address bits lines) c .number) 0 ≡ false) → Quiet l (entryOf op l .ledger) (sentBy op c)
+  unfolding afterOne entryOf sentBy
+  one-quiet (opReset hundredth) may un = absurd (false≢true may)
+  one-quiet (opWrite a bits lines) may un =
+      let not-these = quiet-write address a bits lines from may in
+      other-leaves (λ m b. Quiet l m 0) l false none bits none none (λ g. none) (λ xs. none) a lines (not-these .0) (not-these .1 .0)
+      (λ e. absurd (false≢true (sym (not-these .1 .1 .0) ∙ e)))
+      (λ x y one.
+      let is : a ≡ address = not-these .1 .1 .1 x y in
+      subst (λ (i : ℕ). Quiet l (afterFate (fateIn (leb 112 i) (i % 16) l) (leb 112 i) (lineIn lines) bits l) 0) (sym is)
+      (asked-quiet bits lines one (un bits lines (ap (λ (i : ℕ). opWrite i bits lines) is))))
+  one-quiet (opRead a) may un = read-leaves (λ m b. Quiet l m 0) l false none a none
+  one-quiet (opTicks k) may un = none
+  one-quiet (opNodes k) may un = none
+  one-quiet (opEvents mask) may un = none
+  one-quiet opSend may un =
+      subst (λ (m : Ledger). Quiet l m (cond (eqb (step opSend c .number) 0) 1 0)) (sym (send-leaves l))
+      (refl, (refl, ap (λ (x : ℕ). l .sent + x) (sym (send-counts l c agree))))
+  one-quiet (opFill room) may un = (refl, (refl, ap (λ (x : ℕ). l .sent + x) (sym (agrees-step (opFill room) l c agree .value))))
 
-  -- and a list of such operations
-  all-quiet : (ops : List Operation) (l : Ledger) (c : Chip) → Agrees l c → Armed (address % 16) (l .settings) → Between address c ops → Quiet l (ledgerFrom l ops) (wordsIn c ops)
-  unfolding ledgerFrom wordsIn runFrom
-  all-quiet [] l c a armed h = (refl, (refl, sym (add-zero (l .sent))))
-  all-quiet (op ∷ ops) l c a armed h =
-      let x = one-quiet l c a armed op (h .quiet [] ops op refl) (λ bits lines e. h .untaken [] ops bits lines (ap (λ (o : Operation). o ∷ ops) e)) in
-      let y =
-      all-quiet ops (entryOf op l .ledger) (step op c .chip) (agrees-step op l c a .agrees) (subst (Armed (address % 16)) (sym (x .0)) armed)
-      (record {
-        quiet = λ first rest o e. h .quiet (op ∷ first) rest o (ap (λ (os : List Operation). op ∷ os) e);
-        untaken = λ first rest bits lines e. h .untaken (op ∷ first) rest bits lines (ap (λ (os : List Operation). op ∷ os) e);
-      }) in
-      (y .0 ∙ x .0, (y .1 .0 ∙ x .1 .0, omega (arith, x .1 .1, y .1 .1)))
+-- and a list of such operations
+all-quiet : (address : ℕ) → 96 ≤ address → address ≤ 127 → (ops : List Operation) (l : Ledger) (c : Chip) → Agrees l c → Armed (address % 16) (l .settings) → Between address c ops → Quiet l (ledgerFrom l ops) (wordsIn c ops)
+unfolding ledgerFrom wordsIn runFrom
+all-quiet address from upto [] l c a armed h = (refl, (refl, sym (add-zero (l .sent))))
+all-quiet address from upto (op ∷ ops) l c a armed h =
+    let x = one-quiet address from upto l c a armed op (h .quiet [] ops op refl) (λ bits lines e. h .untaken [] ops bits lines (ap (λ (o : Operation). o ∷ ops) e)) in
+    let y =
+    all-quiet address from upto ops (entryOf op l .ledger) (step op c .chip) (agrees-step op l c a .agrees) (subst (Armed (address % 16)) (sym (x .0)) armed)
+    (record {
+      quiet = λ first rest o e. h .quiet (op ∷ first) rest o (ap (λ (os : List Operation). op ∷ os) e);
+      untaken = λ first rest bits lines e. h .untaken (op ∷ first) rest bits lines (ap (λ (os : List Operation). op ∷ os) e);
+    }) in
+    (y .0 ∙ x .0, (y .1 .0 ∙ x .1 .0, omega (arith, x .1 .1, y .1 .1)))
 
 -- ---- room on the ledger
 
