@@ -1,4 +1,4 @@
--- The laws and the theorems of demand 3, and of the settings after a list.
+-- The laws and the theorems of demand 3, of the settings after a list, and of how long a trigger waits.
 pub mod Addresses
 pub mod Agrees
 pub mod CountLaws

@@ -1,6 +1,6 @@
 -- Wish 8's law: after so many words a trigger has room, whatever the lengths of samples, the places and the Resource samples that may be held; and no
 -- fewer are enough. One law for both kinds of trigger: any test of samples, where those that pass it have at most b words and the others at most a.
--- By induction on the samples. Assumes what `Held` says of places and Resource samples held, and a ≤ b.
+-- By induction on the samples. Assumes that no more than n samples, r Resource samples among them, are held to begin with, 1 ≤ r ≤ n, and a ≤ b.
 use Prim.Native.Nat.{ℕ, zero, suc, _+_, _-_, _*_, _≤_, _<_}
 use native.Mathlib.Nat.{add-mul, le-of-eq, mul-le-mul-right, not-suc-le-zero, sub-self, suc-mul, zero-add, zero-mul}
 use native.Mathlib.Omega.{arith}
@@ -16,7 +16,7 @@ use Rattle.samples.specs.declared.edition.Edition.the-variants.{First, Second}
 use Rattle.samples.specs.declared.sample.Sample.{Sample}
 use Rattle.chip.proofs.ChipLaws.{either}
 use Rattle.history.specs.Stream.{anyHeld, heldOf, isBlocked, isFull, lengthOf, unsentOf}
-use Rattle.history.specs.Waiting.{countOf, enough, kindOf, lacksAt, limitsOf, slowest, within}
+use Rattle.history.specs.Waiting.{countOf, enough, kindOf, lacksAt, slowest, within}
 use Rattle.history.proofs.HeldLaws.{layout-length, unsent-here, unsent-past}
 
 -- ---- counting
@@ -46,7 +46,8 @@ count-append f (s ∷ ss) ts = let h = count-append f ss ts in omega arith
 -- ---- what is unsent after more words
 
 module _ {A : Type 0} (len : A → ℕ) where
-  -- what is so of what stays unsent, after m words or more, of the samples that were unsent, is so after m words more
+  -- after n words and then m, the same samples are unsent as after some k words, m or more, of those that were unsent after n: what is so of these for
+  -- each such k is so
   pub unsent-again : (P : List A → Type 0) (ss : List A) (n m : ℕ) → ((k : ℕ) → m ≤ k → P (unsentOf len (unsentOf len ss n) k)) → P (unsentOf len ss (n + m))
   unfolding unsentOf
   unsent-again P [] n m h = h m (omega arith)
@@ -135,7 +136,7 @@ count-alike true (suc t) = let h = count-alike true t in omega arith
 count-alike false zero = refl
 count-alike false (suc t) = let h = count-alike false t in omega arith
 
--- where some lack room, some with as many do
+-- n held leave no room, and r Resource samples held leave none for a Resource trigger
 module _ (n r : ℕ) (resource : Bool) (hs : List Bool) where
   no-place : length hs ≡ n → lacksAt (λ k. k) n r resource hs ≡ true
   no-place e = ap (λ (b : Bool). b || (resource && leb r (countOf (λ k. k) hs))) (le-leb n (length hs) (omega arith))
@@ -187,7 +188,7 @@ module _ (n r a b : ℕ) (one : 1 ≤ r) (fits : r ≤ n) (some : 0 < b) where
       subst (λ (hs : List Bool). lacksAt (λ k. k) n r false hs ≡ true) (sym (unsent-here len true (replicate (n - 1) false) (b - 1) (omega arith)))
       (no-place n r false (slowest n r false) (slowest-held false .0))
 
--- where a Trace sample is the longer one, the law is false: n of them leave no room after b words
+-- where a Trace sample is the longer one, the law is false for a Trace trigger: n Trace samples leave no room after b words
 pub longer-trace : (n r a b : ℕ) → 1 ≤ n → b < a → lacksAt (λ k. k) n r false (unsentOf (λ k. cond k b a) (replicate n false) (within n r a b false)) ≡ true
 longer-trace zero r a b h more = absurd (not-suc-le-zero h)
 longer-trace (suc n) r a b h more =
@@ -196,7 +197,7 @@ longer-trace (suc n) r a b h more =
 
 -- ---- the same over the edition
 
--- a Resource sample is held where one or more are
+-- whether any Resource sample is held, and whether one or more are
 any-count : (ss : List Sample) → leb 1 (countOf kindOf ss) ≡ anyHeld ss
 unfolding anyHeld countOf
 any-count [] = refl
@@ -221,7 +222,7 @@ stream-room ed n r one fits taken sent k long few =
     by-kind false = refl
 
 -- Wish 8's numbers for this chip, Wish 9's for the MultiKron II, and Wish 11's for two shadow sets on each
-pub law-numbers : (limitsOf First 1 ∷ limitsOf Second 1 ∷ limitsOf First 2 ∷ limitsOf Second 2 ∷ []) ≡ ((80 ∷ 192 ∷ []) ∷ (84 ∷ 224 ∷ []) ∷ (80 ∷ 176 ∷ []) ∷ (84 ∷ 204 ∷ []) ∷ [])
+pub law-numbers : let w : Edition → ℕ → Bool → ℕ = λ ed r resource. within 8 r (sampleLength (widths ed) false) (sampleLength (widths ed) true) resource in (w First 1 false ∷ w First 1 true ∷ w Second 1 false ∷ w Second 1 true ∷ w First 2 false ∷ w First 2 true ∷ w Second 2 false ∷ w Second 2 true ∷ []) ≡ (80 ∷ 192 ∷ 84 ∷ 224 ∷ 80 ∷ 176 ∷ 84 ∷ 204 ∷ [])
 law-numbers = refl
 
 -- this chip's are the least, computed: with samples of 16 and 80 words, one word fewer is not enough

@@ -1,13 +1,13 @@
 -- Wish 8: a trigger that is told to wait is taken after 80 words, or 192, or once nothing is left to send; so single sends alone end the wait. By what
 -- each operation in between leaves of the ledger, and the law on room. Assumes of the list in between what `Between` says, and nothing of the one before.
 use Prim.Native.Nat.{ℕ, zero, suc, _+_, _-_, _%_, _≤_, _<_, min}
-use native.Mathlib.Nat.{add-zero, le-of-suc-le-suc, not-suc-le-zero}
+use native.Mathlib.Nat.{add-zero, le-of-suc-le-suc, not-suc-le-zero, suc-ne-zero}
 use native.Mathlib.Omega.{arith}
 use mathlib.Core.Path.{_≡_, refl, sym, ap, ap₂, _∙_, subst}
 use mathlib.Core.Bool.{Bool, true, false, cond, not, _&&_, _||_, false≢true}
 use mathlib.Core.List.{List, [], _∷_, _++_}
 use lib.Dec.{eqb, leb, ltb}
-use lib.ListN.{length, getD, replicate}
+use lib.ListN.{length, drop, getD, replicate}
 use lib.Seq.{length-take-le}
 use borrow.Author.Tests.{eqb-true, eqb-false, eq-eqb, ne-eqb, le-leb, lt-leb, leb-true, leb-false, ltb-false, ltb-true}
 use Rattle.samples.specs.declared.edition.Edition.the-variants.{First}
@@ -20,7 +20,7 @@ use Rattle.chip.proofs.Refusals.{when-waiting}
 use Rattle.history.specs.Ledger.{Fate, Ledger, Settings, afterFate, afterOne, entryOf, fateIn, fateNumber, held, isSet, ledgerFrom, ledgerOf, left, lineIn, resetAt, sentMore, wasTaken, wasTold, withStream}
 use Rattle.history.specs.Run.{chipOf, runFrom, sentOf}
 use Rattle.history.specs.Stream.{anyHeld, heldOf, isBlocked, isFull, totalOf, wordsOfAll}
-use Rattle.history.specs.Waiting.{Between, EndsWithin, barred, enough, leavesAlone, mattersTo, mayCome, sentBy, waitedMore, within, wordsIn}
+use Rattle.history.specs.Waiting.{Between, EndsBySends, barred, enough, leavesAlone, mattersTo, mayCome, sentBy, waitedMore, within, wordsIn}
 use Rattle.history.proofs.Agrees.{Agrees}
 use Rattle.history.proofs.HeldLaws.{held-none, words-total}
 use Rattle.history.proofs.HoldsLaws.{held-count}
@@ -56,8 +56,8 @@ armed-fate resource level l a = λ i. fateBy (a .0 i) (a .1 .0 i) (lacks resourc
 abbrev Quiet : Ledger → Ledger → ℕ → Type 0
 Quiet l m k = (m .settings ≡ l .settings) × ((m .taken ≡ l .taken) × (m .sent ≡ l .sent + k))
 
--- the trigger itself may be asked
-may-ask : (address bits lines : ℕ) → mayCome address (opWrite address bits lines) ≡ true
+-- the trigger itself may be asked again
+pub may-ask : (address bits lines : ℕ) → mayCome address (opWrite address bits lines) ≡ true
 unfolding afterOne
 may-ask a bits lines = ap (λ (b : Bool). b || not (barred a)) (eq-eqb a a refl)
 
@@ -149,6 +149,10 @@ module _ (resource : Bool) where
       go : (r : Bool) → enough r ≤ k → within 8 1 16 80 r ≤ k
       go true more = omega arith
       go false more = omega arith
+
+  -- with the same samples and words there is as much
+  same-room : (l m : Ledger) → Quiet l m 0 → lacks resource m ≡ lacks resource l
+  same-room l m since = ap (λ (hs : List Sample). isFull hs || isBlocked resource hs) (ap₂ (heldOf First) (since .1 .0) (since .1 .1 ∙ add-zero (l .sent)))
 
   -- and where nothing is left
   empty-room : (l : Ledger) → left l ≡ 0 → lacks resource l ≡ false
@@ -250,120 +254,208 @@ may-said address (opEvents mask) = refl
 may-said address opSend = refl
 may-said address (opFill room) = refl
 
+-- and so in plain words: any write may come but at 0, 1, 4 and from 96 to 127, and any read, ticks, events and sends
+pub may-write : (address a bits lines : ℕ) → (a ≡ 0 → ⊥) → (a ≡ 1 → ⊥) → (a ≡ 4 → ⊥) → (96 ≤ a → a ≤ 127 → ⊥) → mayCome address (opWrite a bits lines) ≡ true
+unfolding afterOne
+may-write address a bits lines n0 n1 n4 outside =
+    ap (λ (b : Bool). eqb a address || not b) (λ i. ne-eqb a 0 n0 i || (ne-eqb a 1 n1 i || (ne-eqb a 4 n4 i || beyond (leb 96 a) refl (leb a 127) refl i)))
+    ∙ whatever (eqb a address)
+  where
+    beyond : (x : Bool) → leb 96 a ≡ x → (y : Bool) → leb a 127 ≡ y → (x && y) ≡ false
+    beyond true e true d = absurd (outside (leb-true 96 a e) (leb-true a 127 d))
+    beyond true e false d = refl
+    beyond false e y d = refl
+
+    whatever : (b : Bool) → (b || true) ≡ true
+    whatever true = refl
+    whatever false = refl
+
+pub may-others : (address : ℕ) → ((a : ℕ) → mayCome address (opRead a) ≡ true) × (((k : ℕ) → mayCome address (opTicks k) ≡ true) × (((k : ℕ) → mayCome address (opNodes k) ≡ true) × (((mask : ℕ) → mayCome address (opEvents mask) ≡ true) × ((mayCome address opSend ≡ true) × ((room : ℕ) → mayCome address (opFill room) ≡ true)))))
+unfolding afterOne
+may-others address = (λ a. refl, (λ k. refl, (λ k. refl, (λ mask. refl, (refl, λ room. refl)))))
+
+-- what came in between, one operation after the other: it may come, and where it is the trigger asked again, it is not taken
+nothing-stands : (first rest : List Operation) (op : Operation) → _≡_ {A = List Operation} [] (first ++ (op ∷ rest)) → ⊥
+nothing-stands [] rest op e = suc-ne-zero _ (sym (ap length e))
+nothing-stands (x ∷ first) rest op e = suc-ne-zero _ (sym (ap length e))
+
+pub between-none : (address : ℕ) (c : Chip) → Between address c []
+between-none address c =
+    record { quiet = λ first rest op e. absurd (nothing-stands first rest op e); untaken = λ first rest bits lines e. absurd (nothing-stands first rest _ e) }
+
+pub between-next : (address : ℕ) (c : Chip) (op : Operation) (ops : List Operation) → mayCome address op ≡ true → ((bits lines : ℕ) → op ≡ opWrite address bits lines → eqb (step op c .number) 0 ≡ false) → Between address (step op c .chip) ops → Between address c (op ∷ ops)
+unfolding runFrom
+between-next address c op ops may un h = record { quiet = quiet; untaken = untaken }
+  where
+    quiet : (first rest : List Operation) (o : Operation) → op ∷ ops ≡ first ++ (o ∷ rest) → mayCome address o ≡ true
+    quiet [] rest o e = subst (λ (x : Operation). mayCome address x ≡ true) (ap (λ (os : List Operation). getD os 0 op) e) may
+    quiet (x ∷ first) rest o e = h .quiet first rest o (ap (drop 1) e)
+
+    untaken : (first rest : List Operation) (bits lines : ℕ) → op ∷ ops ≡ first ++ (opWrite address bits lines ∷ rest) → eqb (step (opWrite address bits lines) (runFrom c first) .number) 0 ≡ false
+    untaken [] rest bits lines e =
+        let is : op ≡ opWrite address bits lines = ap (λ (os : List Operation). getD os 0 op) e in
+        subst (λ (x : Operation). eqb (step x c .number) 0 ≡ false) is (un bits lines is)
+    untaken (x ∷ first) rest bits lines e =
+        subst (λ (y : Operation). eqb (step (opWrite address bits lines) (runFrom (step y c .chip) first) .number) 0 ≡ false) (ap (λ (os : List Operation). getD os 0 op) e)
+        (h .untaken first rest bits lines (ap (drop 1) e))
+
 -- answered 10, whatever asked changed nothing but the Wait Counter
 pub asked-again : (op : Operation) (c : Chip) → step op c .number ≡ 10 → step op c .chip ≡ waitedMore c
 asked-again op c e = when-waiting op c e .1
 
+-- the sends that end a wait are always as many
+pub ends-once : (trigger : Operation) (c : Chip) (x y : EndsBySends trigger c) → x .sends ≡ y .sends
+ends-once trigger c x y =
+    let a : x .sends < y .sends → ⊥ = λ h. clash (sym (x .taken) ∙ y .waits (x .sends) h) in
+    let b : y .sends < x .sends → ⊥ = λ h. clash (sym (y .taken) ∙ x .waits (y .sends) h) in
+    omega arith
+  where
+    clash : _≡_ {A = ℕ} 0 10 → ⊥
+    clash e = omega arith
+
 -- ---- the wish
 
--- after any list, a trigger at any of the trigger addresses, with one active line and any data, is told to wait
-module _ (before : List Operation) (address bits lines : ℕ) (from : 96 ≤ address) (upto : address ≤ 127) (one : lineIn lines < 8) (told : step (opWrite address bits lines) (chipOf before) .number ≡ 10) where
+-- eight samples are held at most
+eight : (l : Ledger) (c : Chip) → Agrees l c → length (held l) ≤ 8
+eight l c a = subst (λ (n : ℕ). n ≤ 8) (sym (held-count First _ _ (a .shadows) (a .queue) (a .good .holds))) (a .good .holds .few)
+
+-- after any list, let a trigger at one of the trigger addresses, with one active line and any data, be told to wait; then let anything come that may,
+-- and no asking be taken
+module _ (before : List Operation) (address : ℕ) (from : 96 ≤ address) (upto : address ≤ 127) (bits lines : ℕ) (one : lineIn lines < 8) (told : step (opWrite address bits lines) (chipOf before) .number ≡ 10) (between : List Operation) (h : Between address (step (opWrite address bits lines) (chipOf before) .chip) between) where
   abbrev trigger : Operation
   trigger = opWrite address bits lines
+
+  -- the chip that the first asking left, and the one after what came in between
+  abbrev asked : Chip
+  asked = step trigger (chipOf before) .chip
+
+  abbrev now : Chip
+  now = runFrom asked between
 
   abbrev resource : Bool
   resource = leb 112 address
 
-  -- the chip that this asking leaves
-  abbrev asked : Chip
-  asked = step trigger (chipOf before) .chip
+  later : Ledger
+  later = ledgerFrom (entryOf trigger (ledgerOf before) .ledger) between
 
-  why : let s = ledgerOf before .settings in (s .sampling ≡ true) × ((isSet (s .filter) (address % 16) ≡ true) × ((s .writewait ≡ true) × (lacks resource (ledgerOf before) ≡ true)))
-  why = told-why _ _ _ _ (sym (fate-said (ledgerOf before) (chipOf before) (agrees before) address bits lines from upto one) ∙ told)
+  later-agrees : Agrees later now
+  unfolding later
+  later-agrees = run-agrees between _ asked (agrees-step trigger (ledgerOf before) (chipOf before) (agrees before) .agrees)
 
-  armed : Armed (address % 16) (ledgerOf before .settings)
-  armed = (why .0, (why .1 .0, why .1 .1 .0))
+  later-is : ledgerOf (before ++ (trigger ∷ between)) ≡ later
+  unfolding later ledgerFrom
+  later-is = ledger-both before (trigger ∷ between) (resetAt 0 false)
 
-  -- eight samples are held at most
-  eight : length (held (ledgerOf before)) ≤ 8
-  eight =
-      let a : Agrees (ledgerOf before) (chipOf before) = agrees before in
-      subst (λ (n : ℕ). n ≤ 8) (sym (held-count First _ _ (a .shadows) (a .queue) (a .good .holds))) (a .good .holds .few)
+  first-armed : Armed (address % 16) (ledgerOf before .settings)
+  first-armed =
+      let s = ledgerOf before .settings in
+      let why = told-why (s .sampling) (isSet (s .filter) (address % 16)) (lacks resource (ledgerOf before)) (s .writewait) (sym (fate-said (ledgerOf before) (chipOf before) (agrees before) address bits lines from upto one) ∙ told) in
+      (why .0, (why .1 .0, why .1 .1 .0))
 
-  -- where it has room, it is taken
-  has-room : (m : Ledger) (c : Chip) → Agrees m c → m .settings ≡ ledgerOf before .settings → lacks resource m ≡ false → (bits lines : ℕ) → lineIn lines < 8 → step (opWrite address bits lines) c .number ≡ 0
-  has-room m c a e room bits′ lines′ one′ =
-      fate-said m c a address bits′ lines′ from upto one′
-      ∙ ap fateNumber (armed-fate resource (address % 16) m (subst (Armed (address % 16)) (sym e) armed) ∙ ap (λ (b : Bool). cond b wasTold wasTaken) room)
+  since : Quiet (ledgerOf before) later (wordsIn asked between)
+  unfolding later sentBy
+  since =
+      let x =
+      one-quiet address from upto (ledgerOf before) (chipOf before) (agrees before) first-armed trigger (may-ask address bits lines)
+      (λ bits′ lines′ e. subst (λ (o : Operation). eqb (step o (chipOf before) .number) 0 ≡ false) e (ap (λ (n : ℕ). eqb n 0) told)) in
+      let y =
+      all-quiet address from upto between (entryOf trigger (ledgerOf before) .ledger) asked (agrees-step trigger (ledgerOf before) (chipOf before) (agrees before) .agrees) (subst (Armed (address % 16)) (sym (x .0)) first-armed) h in
+      (y .0 ∙ x .0, (y .1 .0 ∙ x .1 .0, omega (arith, x .1 .1, y .1 .1)))
 
-  -- ---- asked again later
+  armed : Armed (address % 16) (later .settings)
+  armed = subst (Armed (address % 16)) (sym (since .0)) first-armed
 
-  module _ (between : List Operation) (h : Between address asked between) where
-    abbrev later : Ledger
-    later = ledgerFrom (entryOf trigger (ledgerOf before) .ledger) between
+  -- 10 or 0, by room
+  answer : Bool → ℕ
+  answer b = fateNumber (cond b wasTold wasTaken)
 
-    later-agrees : Agrees later (runFrom asked between)
-    later-agrees = run-agrees between _ asked (agrees-step trigger (ledgerOf before) (chipOf before) (agrees before) .agrees)
+  by-room : (l : Ledger) (c : Chip) → Agrees l c → Armed (address % 16) (l .settings) → (bits lines : ℕ) → lineIn lines < 8 → step (opWrite address bits lines) c .number ≡ answer (lacks resource l)
+  unfolding answer
+  by-room l c a s bits′ lines′ one′ = fate-said l c a address bits′ lines′ from upto one′ ∙ ap fateNumber (armed-fate resource (address % 16) l s)
 
-    since : Quiet (ledgerOf before) later (wordsIn asked between)
-    unfolding sentBy
-    since =
-        let x =
-        one-quiet address from upto (ledgerOf before) (chipOf before) (agrees before) armed trigger (may-ask address bits lines)
-        (λ bits′ lines′ e. subst (λ (o : Operation). eqb (step o (chipOf before) .number) 0 ≡ false) e (ap (λ (n : ℕ). eqb n 0) told)) in
-        let y =
-        all-quiet address from upto between (entryOf trigger (ledgerOf before) .ledger) asked (agrees-step trigger (ledgerOf before) (chipOf before) (agrees before) .agrees) (subst (Armed (address % 16)) (sym (x .0)) armed) h in
-        (y .0 ∙ x .0, (y .1 .0 ∙ x .1 .0, omega (arith, x .1 .1, y .1 .1)))
+  has-room : lacks resource later ≡ false → (bits lines : ℕ) → lineIn lines < 8 → step (opWrite address bits lines) now .number ≡ 0
+  unfolding answer
+  has-room room bits′ lines′ one′ = by-room later now later-agrees armed bits′ lines′ one′ ∙ ap answer room
 
-    -- "A Trace trigger is taken at the latest after 80 words have been sent, a Resource trigger after 192 words"
-    pub waiting-ends : enough resource ≤ wordsIn asked between → (bits lines : ℕ) → lineIn lines < 8 → step (opWrite address bits lines) (runFrom asked between) .number ≡ 0
-    waiting-ends few =
-        has-room later (runFrom asked between) later-agrees (since .0) (words-room resource (ledgerOf before) later (wordsIn asked between) (single before) eight since few)
+  words-end : enough resource ≤ wordsIn asked between → (bits lines : ℕ) → lineIn lines < 8 → step (opWrite address bits lines) now .number ≡ 0
+  words-end few = has-room (words-room resource (ledgerOf before) later (wordsIn asked between) (single before) (eight (ledgerOf before) (chipOf before) (agrees before)) since few)
 
-    -- "or once nothing is left to send"
-    pub empty-ends : step opSend (runFrom asked between) .number ≡ 5 → (bits lines : ℕ) → lineIn lines < 8 → step (opWrite address bits lines) (runFrom asked between) .number ≡ 0
-    empty-ends e =
-        has-room later (runFrom asked between) later-agrees (since .0)
-        (empty-room resource later (five (eqb (left later) 0) refl (sym (send-number later (runFrom asked between) later-agrees) ∙ e)))
-      where
-        five : (b : Bool) → eqb (left later) 0 ≡ b → _≡_ {A = ℕ} (cond b 5 0) 5 → left later ≡ 0
-        five true t n = eqb-true (left later) 0 t
-        five false t n = absurd (omega arith)
+  -- "A Trace trigger is taken at the latest after 80 words have been sent": asked by any one line, with any data
+  pub trace-ends : address ≤ 111 → 80 ≤ wordsIn asked between → (bits lines : ℕ) → lineIn lines < 8 → step (opWrite address bits lines) now .number ≡ 0
+  trace-ends kind few = words-end (subst (λ (b : Bool). enough b ≤ wordsIn asked between) (sym (lt-leb 112 address (omega arith))) (omega arith))
 
-    -- and until then it waits: nothing in between makes it filtered, off or lost
-    pub waits-or-taken : (bits lines : ℕ) → lineIn lines < 8 → let n = step (opWrite address bits lines) (runFrom asked between) .number in (eqb n 10 || eqb n 0) ≡ true
-    waits-or-taken bits′ lines′ one′ =
-        ap (λ (n : ℕ). eqb n 10 || eqb n 0) (fate-said later (runFrom asked between) later-agrees address bits′ lines′ from upto one′)
-        ∙ ap (λ (f : Fate). eqb (fateNumber f) 10 || eqb (fateNumber f) 0) (armed-fate resource (address % 16) later (subst (Armed (address % 16)) (sym (since .0)) armed))
-        ∙ go (lacks resource later)
-      where
-        go : (b : Bool) → (eqb (fateNumber (cond b wasTold wasTaken)) 10 || eqb (fateNumber (cond b wasTold wasTaken)) 0) ≡ true
-        go true = refl
-        go false = refl
+  -- "a Resource trigger after 192 words"
+  pub resource-ends : 112 ≤ address → 192 ≤ wordsIn asked between → (bits lines : ℕ) → lineIn lines < 8 → step (opWrite address bits lines) now .number ≡ 0
+  resource-ends kind few = words-end (subst (λ (b : Bool). enough b ≤ wordsIn asked between) (sym (le-leb 112 address kind)) (omega arith))
 
-    -- the words are counted a second time, by the chip's whole stream
-    pub words-counted : length (sentOf (before ++ (trigger ∷ between))) ≡ length (sentOf before) + wordsIn asked between
-    unfolding ledgerFrom
-    words-counted =
-        sent-length (before ++ (trigger ∷ between)) ∙ ap (λ (l : Ledger). l .sent) (ledger-both before (trigger ∷ between) (resetAt 0 false)) ∙ since .1 .1
-        ∙ ap (λ (n : ℕ). n + wordsIn asked between) (sym (sent-length before))
+  -- "or once nothing is left to send", of either
+  pub empty-ends : step opSend now .number ≡ 5 → (bits lines : ℕ) → lineIn lines < 8 → step (opWrite address bits lines) now .number ≡ 0
+  empty-ends e = has-room (empty-room resource later (five (eqb (left later) 0) refl (sym (send-number later now later-agrees) ∙ e)))
+    where
+      five : (b : Bool) → eqb (left later) 0 ≡ b → _≡_ {A = ℕ} (cond b 5 0) 5 → left later ≡ 0
+      five true t n = eqb-true (left later) 0 t
+      five false t n = absurd (omega arith)
+
+  -- asked at any time it waits or is taken: it is neither off nor filtered nor lost
+  pub waits-or-taken : (bits lines : ℕ) → lineIn lines < 8 → let n = step (opWrite address bits lines) now .number in (eqb n 10 || eqb n 0) ≡ true
+  unfolding answer
+  waits-or-taken bits′ lines′ one′ = ap (λ (n : ℕ). eqb n 10 || eqb n 0) (by-room later now later-agrees armed bits′ lines′ one′) ∙ go (lacks resource later)
+    where
+      go : (b : Bool) → (eqb (answer b) 10 || eqb (answer b) 0) ≡ true
+      go true = refl
+      go false = refl
+
+  -- the words are counted a second time, by the chip's whole stream
+  pub words-counted : length (sentOf (before ++ (trigger ∷ between))) ≡ length (sentOf before) + wordsIn asked between
+  words-counted =
+      sent-length (before ++ (trigger ∷ between)) ∙ ap (λ (l : Ledger). l .sent) later-is ∙ since .1 .1 ∙ ap (λ (n : ℕ). n + wordsIn asked between) (sym (sent-length before))
 
   -- ---- single sends alone
 
-  -- while it waits there is a word to send
-  pub word-to-send : step opSend (chipOf before) .number ≡ 0
-  word-to-send =
-      send-number (ledgerOf before) (chipOf before) (agrees before)
-      ∙ ap (λ (b : Bool). cond b 5 0) (lacks-left resource (ledgerOf before) (why .1 .1 .1))
+  -- where it is told to wait there is a word to send, and so there is after that asking
+  pub word-to-send : (bits lines : ℕ) → lineIn lines < 8 → step (opWrite address bits lines) now .number ≡ 10 → (step opSend now .number ≡ 0) × (step opSend (step (opWrite address bits lines) now .chip) .number ≡ 0)
+  unfolding answer sentBy
+  word-to-send bits′ lines′ one′ e =
+      let full : lacks resource later ≡ true = ten (lacks resource later) (sym (by-room later now later-agrees armed bits′ lines′ one′) ∙ e) in
+      let again : Operation = opWrite address bits′ lines′ in
+      let x =
+      one-quiet address from upto later now later-agrees armed again (may-ask address bits′ lines′)
+      (λ b l is. subst (λ (o : Operation). eqb (step o now .number) 0 ≡ false) is (ap (λ (n : ℕ). eqb n 0) e)) in
+      (send-done later now later-agrees full, send-done (entryOf again later .ledger) (step again now .chip) (agrees-step again later now later-agrees .agrees) (same-room resource later (entryOf again later .ledger) x ∙ full))
+    where
+      ten : (b : Bool) → answer b ≡ 10 → b ≡ true
+      ten true n = refl
+      ten false n = absurd (omega arith)
 
-  -- "single sends alone end the wait: at most 80, at most 192 of them"
-  pub sends-end : EndsWithin (enough resource) trigger (chipOf before)
-  sends-end =
-      let x = first-not (enough resource) (λ j. lacks resource (sentMore j (ledgerOf before))) (sends-room resource (ledgerOf before) (single before) eight) in
+      send-done : (l : Ledger) (c : Chip) → Agrees l c → lacks resource l ≡ true → step opSend c .number ≡ 0
+      send-done l c a t = send-number l c a ∙ ap (λ (b : Bool). cond b 5 0) (lacks-left resource l t)
+
+  -- how many single sends make room
+  until : FirstNot (λ j. lacks resource (sentMore j later)) (enough resource)
+  until = first-not (enough resource) _ (sends-room resource later (subst OneHeld later-is (single (before ++ (trigger ∷ between)))) (eight later now later-agrees))
+
+  -- from any time on single sends alone end the wait
+  pub sends-end : (bits lines : ℕ) → lineIn lines < 8 → EndsBySends (opWrite address bits lines) now
+  unfolding answer
+  sends-end bits′ lines′ one′ =
       record {
-        sends = x .at;
-        few = x .upto;
-        waits = λ j h. by-room j ∙ ap answer (x .before j h);
-        sending = λ j h. send-number (sentMore j (ledgerOf before)) _ (after j) ∙ ap (λ (b : Bool). cond b 5 0) (lacks-left resource (sentMore j (ledgerOf before)) (x .before j h));
-        taken = by-room (x .at) ∙ ap answer (x .here);
+        sends = until .at;
+        waits = λ j h. asking j ∙ ap answer (until .before j h);
+        sending = λ j h. send-number (sentMore j later) _ (after j) ∙ ap (λ (b : Bool). cond b 5 0) (lacks-left resource (sentMore j later) (until .before j h));
+        taken = asking (until .at) ∙ ap answer (until .here);
       }
     where
-      after : (j : ℕ) → Agrees (sentMore j (ledgerOf before)) (runFrom (chipOf before) (replicate j opSend))
-      after j = sends-agree j (ledgerOf before) (chipOf before) (agrees before)
+      after : (j : ℕ) → Agrees (sentMore j later) (runFrom now (replicate j opSend))
+      after j = sends-agree j later now later-agrees
 
-      answer : Bool → ℕ
-      answer b = fateNumber (cond b wasTold wasTaken)
+      asking : (j : ℕ) → step (opWrite address bits′ lines′) (runFrom now (replicate j opSend)) .number ≡ answer (lacks resource (sentMore j later))
+      asking j = by-room (sentMore j later) _ (after j) armed bits′ lines′ one′
 
-      by-room : (j : ℕ) → step trigger (runFrom (chipOf before) (replicate j opSend)) .number ≡ answer (lacks resource (sentMore j (ledgerOf before)))
-      by-room j =
-          fate-said (sentMore j (ledgerOf before)) _ (after j) address bits lines from upto one ∙ ap fateNumber (armed-fate resource (address % 16) (sentMore j (ledgerOf before)) armed)
+  -- 80 of them at most for a Trace trigger, 192 for a Resource trigger
+  pub trace-sends : (bits lines : ℕ) (one : lineIn lines < 8) → address ≤ 111 → sends-end bits lines one .sends ≤ 80
+  unfolding sends-end
+  trace-sends bits′ lines′ one′ kind = subst (λ (b : Bool). until .at ≤ enough b) (lt-leb 112 address (omega arith)) (until .upto)
+
+  pub resource-sends : (bits lines : ℕ) (one : lineIn lines < 8) → 112 ≤ address → sends-end bits lines one .sends ≤ 192
+  unfolding sends-end
+  resource-sends bits′ lines′ one′ kind = subst (λ (b : Bool). until .at ≤ enough b) (le-leb 112 address kind) (until .upto)

@@ -1,13 +1,12 @@
 -- Document 02, Wish 8, "A waiting task gets in": after how many words a trigger that is told to wait has room. First the law's numbers, over what the
 -- editions and the shadow sets differ in; then, for this chip, what may come in between, the words sent in it, and how single sends end the wait.
-use Prim.Native.Nat.{ℕ, _+_, _-_, _*_, _%_, _^_, _≤_, _<_}
+use Prim.Native.Nat.{ℕ, _+_, _-_, _*_, _%_, _^_, _<_}
 use mathlib.Core.Path.{_≡_}
 use mathlib.Core.Bool.{Bool, true, false, cond, not, _&&_, _||_}
-use mathlib.Core.List.{List, [], _∷_, _++_, map}
+use mathlib.Core.List.{List, [], _∷_, _++_}
 use lib.Dec.{eqb, leb}
 use lib.ListN.{length, replicate}
-use Rattle.samples.specs.Layout.{resource, sampleLength, widths}
-use Rattle.samples.specs.declared.edition.Edition.{Edition}
+use Rattle.samples.specs.Layout.{resource}
 use Rattle.samples.specs.declared.sample.Sample.{Sample}
 use Rattle.chip.specs.Operation.{Operation, opReset, opWrite, opRead, opTicks, opNodes, opEvents, opSend, opFill, step}
 use Rattle.chip.specs.Place.{placeOf}
@@ -28,18 +27,14 @@ countOf f (s ∷ ss) = cond (f s) 1 0 + countOf f ss
 abbrev pub lacksAt : {A : Type 0} → (A → Bool) → ℕ → ℕ → Bool → List A → Bool
 lacksAt f n r resource held = leb n (length held) || (resource && leb r (countOf f held))
 
--- "A Trace trigger is taken at the latest after" the words of the longest sample, "a Resource trigger after" as many Trace samples as find room beside
--- r Resource samples, and one of these
+-- "A Trace trigger is taken at the latest after" the words of a Resource sample, the longest where a ≤ b, "a Resource trigger after" those of as many Trace
+-- samples as find room beside r Resource samples, and of one of these
 abbrev pub within : ℕ → ℕ → ℕ → ℕ → Bool → ℕ
 within n r a b resource = cond resource ((n - r) * a + b) b
 
 -- held samples that need as many; yes is a Resource sample. For a Trace trigger one before Trace samples, for a Resource trigger r behind them
 abbrev pub slowest : ℕ → ℕ → Bool → List Bool
 slowest n r resource = cond resource (replicate (n - r) false ++ replicate r true) (true ∷ replicate (n - 1) false)
-
--- those numbers for eight places, a Trace and a Resource trigger, by the edition's samples
-abbrev pub limitsOf : Edition → ℕ → List ℕ
-limitsOf ed r = map (within 8 r (sampleLength (widths ed) false) (sampleLength (widths ed) true)) (false ∷ true ∷ [])
 
 -- whether a sample is a Resource sample
 abbrev pub kindOf : Sample → Bool
@@ -92,7 +87,7 @@ pub record Between (address : ℕ) (c : Chip) (ops : List Operation) : Type 0 wh
   pub quiet : (first rest : List Operation) (op : Operation) → ops ≡ first ++ (op ∷ rest) → mayCome address op ≡ true
   pub untaken : (first rest : List Operation) (bits lines : ℕ) → ops ≡ first ++ (opWrite address bits lines ∷ rest) → eqb (step (opWrite address bits lines) (runFrom c first) .number) 0 ≡ false
 
--- the words that an operation sends: a single send that is done one, a buffer send as many as it answers
+-- the words that an operation sends: a single send that is done one, a buffer send as many as it answers (a reset doesn't come in between)
 unfoldable pub sentBy : Operation → Chip → ℕ
 sentBy (opReset hundredth) c = 0
 sentBy (opWrite address bits lines) c = 0
@@ -122,10 +117,9 @@ waitedMore c =
       switches = c .switches;
     }
 
--- single sends alone end the wait, so many at most: before each the trigger is told to wait, each sends a word, and after them it is taken
-pub record EndsWithin (limit : ℕ) (trigger : Operation) (c : Chip) : Type 0 where
+-- single sends alone end the wait: before each of them the trigger would be told to wait, each sends a word, and after them the trigger is taken
+pub record EndsBySends (trigger : Operation) (c : Chip) : Type 0 where
   pub sends : ℕ
-  pub few : sends ≤ limit
   pub waits : (j : ℕ) → j < sends → step trigger (runFrom c (replicate j opSend)) .number ≡ 10
   pub sending : (j : ℕ) → j < sends → step opSend (runFrom c (replicate j opSend)) .number ≡ 0
   pub taken : step trigger (runFrom c (replicate sends opSend)) .number ≡ 0

@@ -1,1 +1,2 @@
-// Demand 3: what a list of operations alone says of a chip, its settings among it. No code: definitions in specs/ and theorems in proofs/.
+// Demand 3: what a list of operations alone says of a chip, its settings among it; how long a trigger can be told to wait. No code: definitions in
+// specs/ and theorems in proofs/.
