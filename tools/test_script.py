@@ -150,7 +150,7 @@ check(script.unpack(LISTING_B), LISTING_B_TEXT, "Listing B's text")
 
 # ---- the examples pack, and the first of them is Listing B ----
 
-EXAMPLE_NAMES = ["counters.txt", "listing-b.txt", "overrun.txt", "resource.txt", "slow-clock.txt", "waiting.txt"]
+EXAMPLE_NAMES = ["counters.txt", "listing-b.txt", "overrun.txt", "resource.txt", "slow-clock.txt", "waiting-ends.txt", "waiting.txt"]
 check(sorted(name for name in os.listdir(EXAMPLES) if name.endswith(".txt")), EXAMPLE_NAMES, "all examples are here")
 # The records that an example shows the bench refusing with 9; all others have a text of their own.
 RAW_OF_EXAMPLE = {"slow-clock.txt": ["raw 00 00 00 00 02 00 00 00 00 00 00 00"]}
