@@ -3,7 +3,7 @@
 use Prim.Native.Nat.{ℕ, _+_, _-_, _≤_}
 use native.Mathlib.Omega.{arith}
 use mathlib.Core.Path.{_≡_, refl, sym, ap, ap₂, _∙_}
-use mathlib.Core.Bool.{Bool, true, false, not}
+use mathlib.Core.Bool.{Bool, true, false}
 use mathlib.Core.List.{List, [], _++_}
 use lib.ListN.{drop, length, take, take-append-drop}
 use lib.Seq.{drop-at, drop-length, length-take-le, take-add, take-take}
@@ -43,11 +43,6 @@ module _ (size : ℕ) (l : List ℕ) (h : size ≤ length l) where
 -- what has come behind the held bytes is nothing where no more than those is there
 pub nothing-came : (held after : ℕ) (m : List ℕ) → after ≤ length m → after ≡ held → drop held (take after m) ≡ []
 nothing-came held after m h e = ap (λ (n : ℕ). drop n (take after m)) (sym e ∙ sym (length-take-le after m h)) ∙ drop-length (take after m)
-
--- a turn that doesn't see the end
-pub not-ended : (b : Bool) → not b ≡ true → b ≡ false
-not-ended false h = refl
-not-ended true h = sym h
 
 -- before the first turn nothing has come
 pub served-start : (turn : Turn) (input text : List ℕ) → turn .size ≡ 0 → turn .written ≡ 0 → turn .ended ≡ false → turn .chip ≡ fresh → Served turn input text

@@ -1,8 +1,8 @@
 -- Laws of the bounds and of reply 15, which is tried first: what is shown inside the bounds and of a 15 is shown. What holds of both choices
 -- holds of the chosen one. Assumes nothing.
 use Prim.Native.Nat.{_^_, _<_}
-use mathlib.Core.Path.{_≡_, sym, ap}
-use mathlib.Core.Bool.{Bool, true, false, cond, _&&_}
+use mathlib.Core.Path.{_≡_, refl, sym, ap}
+use mathlib.Core.Bool.{Bool, true, false, cond, not, _&&_}
 use lib.Dec.{ltb}
 use borrow.Author.Tests.{lt-ltb, ltb-true}
 use Rattle.words.proofs.WordLaws.{both-left, both-right}
@@ -29,6 +29,11 @@ by-bounds P false c a p q = q
 pub either : {A : Type 0} (P : A → Type 0) (b : Bool) (x y : A) → P x → P y → P (cond b x y)
 either P true x y p q = p
 either P false x y p q = q
+
+-- where it is so that something is not
+pub not-true : (b : Bool) → not b ≡ true → b ≡ false
+not-true true e = sym e
+not-true false e = refl
 
 -- what the bounds say of each part
 module _ (c : Chip) (h : inside c ≡ true) where

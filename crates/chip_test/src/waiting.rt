@@ -28,7 +28,7 @@ pub fn in_between() {
     print::heading(b"It waits no longer whatever else comes in between");
     let mut chip = other_writes(resource_first());
     chip = steps::send_into(chip, 79);
-    chip = counted(chip);
+    chip = ticks_and_reads(chip);
     chip = asked_otherwise(chip);
     chip = steps::send_into(chip, 1);
     chip = steps::write(chip, 96, 5, 64);
@@ -49,7 +49,7 @@ fn other_writes(before: Chip) -> Chip {
     steps::set(chip, 128, 0)
 }
 
-fn counted(before: Chip) -> Chip {
+fn ticks_and_reads(before: Chip) -> Chip {
     let mut chip = steps::timestamp_ticks(before, 20);
     chip = steps::node_ticks(chip, 3);
     chip = steps::external_events(chip, 2);

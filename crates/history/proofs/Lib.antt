@@ -2,10 +2,10 @@
 pub mod Addresses
 pub mod Agrees
 pub mod CountLaws
+pub mod Fits
 pub mod HeldLaws
 pub mod HoldsLaws
 pub mod Leaves
-pub mod Single
 pub mod Steps
 pub mod StreamLaws
 pub mod Theorems

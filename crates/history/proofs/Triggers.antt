@@ -75,6 +75,11 @@ pub or-right : (a b : Bool) → (a || b) ≡ false → b ≡ false
 or-right true b e = absurd (false≢true (sym e))
 or-right false b e = e
 
+-- where one of two is so
+pub or-true : (b : Bool) → (b || true) ≡ true
+or-true true = refl
+or-true false = refl
+
 module _ (l : Ledger) (q : Queue) (sh : List ℕ) (g : Good l q sh) where
   full-same : full q ≡ isFull (held l)
   full-same = holds-full First (l .taken) (l .sent) sh q (g .holds)

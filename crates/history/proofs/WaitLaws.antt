@@ -2,22 +2,23 @@
 -- fewer are enough. One law for both kinds of trigger: any test of samples, where those that pass it have at most b words and the others at most a.
 -- By induction on the samples. Assumes that no more than n samples, r Resource samples among them, are held to begin with, 1 ≤ r ≤ n, and a ≤ b.
 use Prim.Native.Nat.{ℕ, zero, suc, _+_, _-_, _*_, _≤_, _<_}
-use native.Mathlib.Nat.{add-mul, le-of-eq, mul-le-mul-right, not-suc-le-zero, sub-self, suc-mul, zero-add, zero-mul}
+use native.Mathlib.Nat.{add-mul, le-of-eq, le-trans, mul-le-mul-right, not-suc-le-zero, sub-self, suc-mul, zero-add, zero-mul}
 use native.Mathlib.Omega.{arith}
 use mathlib.Core.Path.{_≡_, refl, sym, ap, ap₂, _∙_, subst}
 use mathlib.Core.Bool.{Bool, true, false, cond, not, _&&_, _||_}
 use mathlib.Core.List.{List, [], _∷_, _++_}
 use lib.Dec.{eqb, leb}
 use lib.ListN.{length, replicate, length-append, length-replicate}
-use borrow.Author.Tests.{eqb-true, eqb-false, le-leb, lt-leb, leb-true}
+use borrow.Author.Tests.{eqb-true, eqb-false, le-leb, lt-leb, leb-true, leb-false}
 use Rattle.samples.specs.Layout.{resource, sampleLength, widths}
 use Rattle.samples.specs.declared.edition.Edition.{Edition}
 use Rattle.samples.specs.declared.edition.Edition.the-variants.{First, Second}
 use Rattle.samples.specs.declared.sample.Sample.{Sample}
 use Rattle.chip.proofs.ChipLaws.{either}
-use Rattle.history.specs.Stream.{anyHeld, heldOf, isBlocked, isFull, lengthOf, unsentOf}
-use Rattle.history.specs.Waiting.{countOf, enough, kindOf, lacksAt, slowest, within}
-use Rattle.history.proofs.HeldLaws.{layout-length, unsent-here, unsent-past}
+use Rattle.history.specs.Stream.{anyHeld, heldOf, isBlocked, isFull, lengthOf, totalOf, unsentOf}
+use Rattle.history.specs.Waiting.{Fits, countOf, enough, kindOf, lacksAt, slowest, within}
+use Rattle.history.proofs.HeldLaws.{held-push, layout-length, total-more, unsent-here, unsent-past}
+use Rattle.history.proofs.Triggers.{or-left, or-right, or-true}
 
 -- ---- counting
 
@@ -143,11 +144,7 @@ module _ (n r : ℕ) (resource : Bool) (hs : List Bool) where
 
   no-set : resource ≡ true → countOf (λ k. k) hs ≡ r → lacksAt (λ k. k) n r resource hs ≡ true
   no-set is e =
-      ap₂ (λ (x y : Bool). leb n (length hs) || (x && y)) is (le-leb r (countOf (λ k. k) hs) (omega arith)) ∙ go (leb n (length hs))
-    where
-      go : (b : Bool) → (b || true) ≡ true
-      go true = refl
-      go false = refl
+      ap₂ (λ (x y : Bool). leb n (length hs) || (x && y)) is (le-leb r (countOf (λ k. k) hs) (omega arith)) ∙ or-true (leb n (length hs))
 
 -- a and b are the lengths of the two kinds, and yes is a Resource sample
 module _ (n r a b : ℕ) (one : 1 ≤ r) (fits : r ≤ n) (some : 0 < b) where
@@ -211,15 +208,39 @@ any-count (s ∷ ss) = go (kindOf s) (any-count ss)
 pub lacks-said : (resource : Bool) (held : List Sample) → lacksAt kindOf 8 1 resource held ≡ (isFull held || isBlocked resource held)
 lacks-said resource held = ap (λ (b : Bool). isFull held || (resource && b)) (any-count held)
 
--- the law for samples of an edition
-pub stream-room : (ed : Edition) (n r : ℕ) → 1 ≤ r → r ≤ n → (taken : List Sample) (sent k : ℕ) → length (heldOf ed taken sent) ≤ n → countOf kindOf (heldOf ed taken sent) ≤ r → (resource : Bool) → within n r (sampleLength (widths ed) false) (sampleLength (widths ed) true) resource ≤ k → lacksAt kindOf n r resource (heldOf ed taken (sent + k)) ≡ false
-stream-room ed n r one fits taken sent k long few =
-    room-after kindOf (lengthOf ed) (sampleLength (widths ed) false) (sampleLength (widths ed) true)
-    (λ s. sym (layout-length ed s) ∙ by-kind (kindOf s)) (omega arith) n r one fits taken sent k long few
-  where
-    by-kind : (b : Bool) → sampleLength (widths ed) b ≡ cond b (sampleLength (widths ed) true) (sampleLength (widths ed) false)
-    by-kind true = refl
-    by-kind false = refl
+module _ (ed : Edition) (n r : ℕ) where
+  -- the law for samples of an edition
+  pub stream-room : 1 ≤ r → r ≤ n → (taken : List Sample) (sent k : ℕ) → Fits ed n r taken sent → (resource : Bool) → within n r (sampleLength (widths ed) false) (sampleLength (widths ed) true) resource ≤ k → lacksAt kindOf n r resource (heldOf ed taken (sent + k)) ≡ false
+  stream-room one fits taken sent k h =
+      room-after kindOf (lengthOf ed) (sampleLength (widths ed) false) (sampleLength (widths ed) true)
+      (λ s. sym (layout-length ed s) ∙ by-kind (kindOf s)) (omega arith) n r one fits taken sent k (h .0) (h .1 .0)
+    where
+      by-kind : (b : Bool) → sampleLength (widths ed) b ≡ cond b (sampleLength (widths ed) true) (sampleLength (widths ed) false)
+      by-kind true = refl
+      by-kind false = refl
+
+  -- the places fit to begin with, after a sample that found room, and after more words
+  pub fits-none : Fits ed n r [] 0
+  unfolding countOf unsentOf totalOf
+  fits-none = (omega arith, (omega arith, omega arith))
+
+  pub fits-taken : (taken : List Sample) (sent : ℕ) (s : Sample) → Fits ed n r taken sent → lacksAt kindOf n r (kindOf s) (heldOf ed taken sent) ≡ false → Fits ed n r (taken ++ (s ∷ [])) sent
+  unfolding countOf
+  fits-taken taken sent s h room =
+      let held : List Sample = heldOf ed taken sent in
+      let behind : heldOf ed (taken ++ (s ∷ [])) sent ≡ held ++ (s ∷ []) = held-push ed taken s sent (h .1 .1) .0 in
+      let places : length held < n = leb-false n (length held) (or-left (leb n (length held)) _ room) in
+      let sets : countOf kindOf held + cond (kindOf s) 1 0 ≤ r = go (kindOf s) (or-right (leb n (length held)) _ room) in
+      (omega (arith, ap length behind, length-append held (s ∷ [])), (omega (arith, ap (countOf kindOf) behind, count-append kindOf held (s ∷ [])), omega (arith, h .1 .1, total-more ed taken s)))
+    where
+      go : (b : Bool) → (b && leb r (countOf kindOf (heldOf ed taken sent))) ≡ false → countOf kindOf (heldOf ed taken sent) + cond b 1 0 ≤ r
+      go true e = omega (arith, leb-false r (countOf kindOf (heldOf ed taken sent)) e)
+      go false e = omega (arith, h .1 .0)
+
+  pub fits-sent : (taken : List Sample) (sent m : ℕ) → Fits ed n r taken sent → sent + m ≤ totalOf ed taken → Fits ed n r taken (sent + m)
+  fits-sent taken sent m h most =
+      let fewer : (f : Sample → Bool) → countOf f (heldOf ed taken (sent + m)) ≤ countOf f (heldOf ed taken sent) = λ f. more-fewer (lengthOf ed) f taken sent m in
+      (omega (arith, h .0, fewer (λ s. true), count-all (heldOf ed taken (sent + m)), count-all (heldOf ed taken sent)), (le-trans (fewer kindOf) (h .1 .0), most))
 
 -- Wish 8's numbers for this chip, Wish 9's for the MultiKron II, and Wish 11's for two shadow sets on each
 pub law-numbers : let w : Edition → ℕ → Bool → ℕ = λ ed r resource. within 8 r (sampleLength (widths ed) false) (sampleLength (widths ed) true) resource in (w First 1 false ∷ w First 1 true ∷ w Second 1 false ∷ w Second 1 true ∷ w First 2 false ∷ w First 2 true ∷ w Second 2 false ∷ w Second 2 true ∷ []) ≡ (80 ∷ 192 ∷ 84 ∷ 224 ∷ 80 ∷ 176 ∷ 84 ∷ 204 ∷ [])

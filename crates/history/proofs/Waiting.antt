@@ -16,26 +16,22 @@ use Rattle.chip.specs.Operation.{Operation, opReset, opWrite, opRead, opTicks, 
 use Rattle.chip.specs.Place.{placeOf, registerOf}
 use Rattle.chip.specs.declared.chip.Chip.{Chip}
 use Rattle.chip.proofs.AddressLaws.{place-beyond, same, same-eq, upTo-at}
+use Rattle.chip.proofs.ChipLaws.{not-true}
 use Rattle.chip.proofs.Refusals.{when-waiting}
-use Rattle.history.specs.Ledger.{Fate, Ledger, Settings, afterFate, afterOne, entryOf, fateIn, fateNumber, held, isSet, ledgerFrom, ledgerOf, left, lineIn, resetAt, sentMore, wasTaken, wasTold, withStream}
+use Rattle.history.specs.Ledger.{Fate, Ledger, Settings, afterFate, afterOne, entryOf, fateIn, fateNumber, isSet, ledgerFrom, ledgerOf, left, lineIn, resetAt, sentMore, wasTaken, wasTold, withStream}
 use Rattle.history.specs.Run.{chipOf, runFrom, sentOf}
 use Rattle.history.specs.Stream.{anyHeld, heldOf, isBlocked, isFull, totalOf, wordsOfAll}
-use Rattle.history.specs.Waiting.{Between, EndsBySends, barred, enough, leavesAlone, mattersTo, mayCome, sentBy, waitedMore, within, wordsIn}
+use Rattle.history.specs.Waiting.{Between, EndsBySends, Fits, barred, enough, leavesAlone, mattersTo, mayCome, sentBy, waitedMore, within, wordsIn}
 use Rattle.history.proofs.Agrees.{Agrees}
 use Rattle.history.proofs.HeldLaws.{held-none, words-total}
-use Rattle.history.proofs.HoldsLaws.{held-count}
 use Rattle.history.proofs.Leaves.{other-leaves, read-leaves}
 use Rattle.history.proofs.WaitLaws.{lacks-said, stream-room}
-use Rattle.history.proofs.Single.{OneHeld, lacks, single}
+use Rattle.history.proofs.Fits.{always-fits, lacks}
 use Rattle.history.proofs.Steps.{agrees-step, send-leaves, send-number}
 use Rattle.history.proofs.Theorems.{agrees, fate-said, run-agrees, sent-words}
-use Rattle.history.proofs.Triggers.{fateBy, or-left, or-right}
+use Rattle.history.proofs.Triggers.{fateBy, or-left, or-right, or-true}
 
 -- ---- a trigger that waits
-
-not-true : (b : Bool) → not b ≡ true → b ≡ false
-not-true true e = sym e
-not-true false e = refl
 
 -- it is told to wait with sampling on, its level enabled and write wait set, where it lacks room
 told-why : (s p r w : Bool) → fateNumber (fateBy s p r w) ≡ 10 → (s ≡ true) × ((p ≡ true) × ((w ≡ true) × (r ≡ true)))
@@ -139,11 +135,11 @@ all-quiet address from upto (op ∷ ops) l c a armed h =
 
 module _ (resource : Bool) where
   -- after so many words
-  words-room : (l m : Ledger) (k : ℕ) → OneHeld l → length (held l) ≤ 8 → Quiet l m k → enough resource ≤ k → lacks resource m ≡ false
-  words-room l m k h long since few =
+  words-room : (l m : Ledger) (k : ℕ) → Fits First 8 1 (l .taken) (l .sent) → Quiet l m k → enough resource ≤ k → lacks resource m ≡ false
+  words-room l m k h since few =
       ap (λ (hs : List Sample). isFull hs || isBlocked resource hs) (ap₂ (heldOf First) (since .1 .0) (since .1 .1))
       ∙ sym (lacks-said resource (heldOf First (l .taken) (l .sent + k)))
-      ∙ stream-room First 8 1 (omega arith) (omega arith) (l .taken) (l .sent) k long (h .0) resource (go resource few)
+      ∙ stream-room First 8 1 (omega arith) (omega arith) (l .taken) (l .sent) k h resource (go resource few)
     where
       -- the law's words
       go : (r : Bool) → enough r ≤ k → within 8 1 16 80 r ≤ k
@@ -174,13 +170,13 @@ module _ (resource : Bool) where
       go false t = refl
 
   -- so many single sends, or as many as there are words, make room
-  sends-room : (l : Ledger) → OneHeld l → length (held l) ≤ 8 → lacks resource (sentMore (enough resource) l) ≡ false
-  sends-room l h long = go (leb (enough resource) (left l)) refl
+  sends-room : (l : Ledger) → Fits First 8 1 (l .taken) (l .sent) → lacks resource (sentMore (enough resource) l) ≡ false
+  sends-room l h = go (leb (enough resource) (left l)) refl
     where
       go : (b : Bool) → leb (enough resource) (left l) ≡ b → lacks resource (sentMore (enough resource) l) ≡ false
       go true e =
           let more : enough resource ≤ left l = leb-true (enough resource) (left l) e in
-          words-room l (sentMore (enough resource) l) (min (enough resource) (left l)) h long (refl, (refl, refl)) (omega arith)
+          words-room l (sentMore (enough resource) l) (min (enough resource) (left l)) h (refl, (refl, refl)) (omega arith)
       go false e =
           let fewer : left l < enough resource = leb-false (enough resource) (left l) e in
           empty-room (sentMore (enough resource) l) (omega arith)
@@ -198,7 +194,7 @@ sent-length : (ops : List Operation) → length (sentOf ops) ≡ ledgerOf ops .s
 sent-length ops =
     let l : Ledger = ledgerOf ops in
     ap length (sent-words ops)
-    ∙ length-take-le (l .sent) (wordsOfAll First (l .taken)) (subst (λ (n : ℕ). l .sent ≤ n) (sym (words-total First (l .taken) (agrees ops .good .sixteen))) (single ops .1))
+    ∙ length-take-le (l .sent) (wordsOfAll First (l .taken)) (subst (λ (n : ℕ). l .sent ≤ n) (sym (words-total First (l .taken) (agrees ops .good .sixteen))) (always-fits ops .1 .1))
 
 -- j single sends are as one of j words
 sends-leave : (j : ℕ) (l : Ledger) → ledgerFrom l (replicate j opSend) ≡ sentMore j l
@@ -259,16 +255,12 @@ pub may-write : (address a bits lines : ℕ) → (a ≡ 0 → ⊥) → (a ≡ 1 
 unfolding afterOne
 may-write address a bits lines n0 n1 n4 outside =
     ap (λ (b : Bool). eqb a address || not b) (λ i. ne-eqb a 0 n0 i || (ne-eqb a 1 n1 i || (ne-eqb a 4 n4 i || beyond (leb 96 a) refl (leb a 127) refl i)))
-    ∙ whatever (eqb a address)
+    ∙ or-true (eqb a address)
   where
     beyond : (x : Bool) → leb 96 a ≡ x → (y : Bool) → leb a 127 ≡ y → (x && y) ≡ false
     beyond true e true d = absurd (outside (leb-true 96 a e) (leb-true a 127 d))
     beyond true e false d = refl
     beyond false e y d = refl
-
-    whatever : (b : Bool) → (b || true) ≡ true
-    whatever true = refl
-    whatever false = refl
 
 pub may-others : (address : ℕ) → ((a : ℕ) → mayCome address (opRead a) ≡ true) × (((k : ℕ) → mayCome address (opTicks k) ≡ true) × (((k : ℕ) → mayCome address (opNodes k) ≡ true) × (((mask : ℕ) → mayCome address (opEvents mask) ≡ true) × ((mayCome address opSend ≡ true) × ((room : ℕ) → mayCome address (opFill room) ≡ true)))))
 unfolding afterOne
@@ -314,10 +306,6 @@ ends-once trigger c x y =
     clash e = omega arith
 
 -- ---- the wish
-
--- eight samples are held at most
-eight : (l : Ledger) (c : Chip) → Agrees l c → length (held l) ≤ 8
-eight l c a = subst (λ (n : ℕ). n ≤ 8) (sym (held-count First _ _ (a .shadows) (a .queue) (a .good .holds))) (a .good .holds .few)
 
 -- after any list, let a trigger at one of the trigger addresses, with one active line and any data, be told to wait; then let anything come that may,
 -- and no asking be taken
@@ -378,7 +366,7 @@ module _ (before : List Operation) (address : ℕ) (from : 96 ≤ address) (upto
   has-room room bits′ lines′ one′ = by-room later now later-agrees armed bits′ lines′ one′ ∙ ap answer room
 
   words-end : enough resource ≤ wordsIn asked between → (bits lines : ℕ) → lineIn lines < 8 → step (opWrite address bits lines) now .number ≡ 0
-  words-end few = has-room (words-room resource (ledgerOf before) later (wordsIn asked between) (single before) (eight (ledgerOf before) (chipOf before) (agrees before)) since few)
+  words-end few = has-room (words-room resource (ledgerOf before) later (wordsIn asked between) (always-fits before) since few)
 
   -- "A Trace trigger is taken at the latest after 80 words have been sent": asked by any one line, with any data
   pub trace-ends : address ≤ 111 → 80 ≤ wordsIn asked between → (bits lines : ℕ) → lineIn lines < 8 → step (opWrite address bits lines) now .number ≡ 0
@@ -432,7 +420,7 @@ module _ (before : List Operation) (address : ℕ) (from : 96 ≤ address) (upto
 
   -- how many single sends make room
   until : FirstNot (λ j. lacks resource (sentMore j later)) (enough resource)
-  until = first-not (enough resource) _ (sends-room resource later (subst OneHeld later-is (single (before ++ (trigger ∷ between)))) (eight later now later-agrees))
+  until = first-not (enough resource) _ (sends-room resource later (subst (λ (l : Ledger). Fits First 8 1 (l .taken) (l .sent)) later-is (always-fits (before ++ (trigger ∷ between)))))
 
   -- from any time on single sends alone end the wait
   pub sends-end : (bits lines : ℕ) → lineIn lines < 8 → EndsBySends (opWrite address bits lines) now

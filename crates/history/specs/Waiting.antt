@@ -1,12 +1,13 @@
 -- Document 02, Wish 8, "A waiting task gets in": after how many words a trigger that is told to wait has room. First the law's numbers, over what the
 -- editions and the shadow sets differ in; then, for this chip, what may come in between, the words sent in it, and how single sends end the wait.
-use Prim.Native.Nat.{ℕ, _+_, _-_, _*_, _%_, _^_, _<_}
+use Prim.Native.Nat.{ℕ, _+_, _-_, _*_, _%_, _^_, _≤_, _<_}
 use mathlib.Core.Path.{_≡_}
 use mathlib.Core.Bool.{Bool, true, false, cond, not, _&&_, _||_}
 use mathlib.Core.List.{List, [], _∷_, _++_}
 use lib.Dec.{eqb, leb}
 use lib.ListN.{length, replicate}
 use Rattle.samples.specs.Layout.{resource}
+use Rattle.samples.specs.declared.edition.Edition.{Edition}
 use Rattle.samples.specs.declared.sample.Sample.{Sample}
 use Rattle.chip.specs.Operation.{Operation, opReset, opWrite, opRead, opTicks, opNodes, opEvents, opSend, opFill, step}
 use Rattle.chip.specs.Place.{placeOf}
@@ -15,6 +16,7 @@ use Rattle.chip.specs.declared.place.Place.{Place}
 use Rattle.chip.specs.declared.place.Place.the-variants.{Beyond, Nowhere, Reset, Csr, Timestamp, Filter, Waits, Overruns, Mux, Clear, Enable, Disable, Source, Counter, Trigger}
 use Rattle.history.specs.Ledger.{afterOne, gap}
 use Rattle.history.specs.Run.{runFrom}
+use Rattle.history.specs.Stream.{heldOf, totalOf}
 
 -- ---- the law: n places, Trace samples of a words and Resource samples of b, of which r may be held
 
@@ -39,6 +41,12 @@ slowest n r resource = cond resource (replicate (n - r) false ++ replicate r tru
 -- whether a sample is a Resource sample
 abbrev pub kindOf : Sample → Bool
 kindOf s = resource (s .header)
+
+-- what the places have room for, of the samples taken and the words sent: no more than n are held, r Resource samples among them, and no more words are
+-- sent than there are
+abbrev pub Fits : Edition → ℕ → ℕ → List Sample → ℕ → Type 0
+Fits ed n r taken sent =
+    (length (heldOf ed taken sent) ≤ n) × ((countOf kindOf (heldOf ed taken sent) ≤ r) × (sent ≤ totalOf ed taken))
 
 -- ---- this chip
 

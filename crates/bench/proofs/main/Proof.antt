@@ -6,7 +6,8 @@ use native.Mathlib.Omega.{arith}
 use mathlib.Core.Path.{_≡_, refl}
 use lib.ListN.{length}
 use Rattle.bench.specs.Turn.{Served}
-use Rattle.bench.proofs.TurnLaws.{not-ended, served-start, served-turn}
+use Rattle.chip.proofs.ChipLaws.{not-true}
+use Rattle.bench.proofs.TurnLaws.{served-start, served-turn}
 use Rattle.bench.proofs.main.Statement.{statement}
 use Rattle.bench.proofs.main.Tie as tie
 
@@ -39,7 +40,7 @@ loop-holds : tie.Need-loop-holds Inv-loop μ-loop
 loop-holds c = (search needs, refl, refl, served-start _ _ _ refl refl refl (c .fresh .ensures))
 
 pass-requires : tie.Need-pass-requires Inv-loop μ-loop
-pass-requires c κs = (not-ended _ (c .before .before .before .before .if1 .taken), (c .before .before .before .before .before .before .before .loop .inv .3 .fits, (omega arith, omega arith)))
+pass-requires c κs = (not-true _ (c .before .before .before .before .if1 .taken), (c .before .before .before .before .before .before .before .loop .inv .3 .fits, (omega arith, omega arith)))
 
 sub-turns : tie.Need-sub-turns Inv-loop μ-loop
 sub-turns c = search needs
@@ -48,7 +49,7 @@ loop-less : tie.Need-loop-less Inv-loop μ-loop
 loop-less c = search needs
 
 loop-again : tie.Need-loop-again Inv-loop μ-loop
-loop-again c = (search needs, omega arith, omega arith, served-turn (c .before .before .before .before .before .before .before .before .before .before .before .before .loop .inv .3) (not-ended _ (c .before .before .before .before .before .before .before .before .before .if1 .taken)) (c .before .before .before .before .pass .ensures))
+loop-again c = (search needs, omega arith, omega arith, served-turn (c .before .before .before .before .before .before .before .before .before .before .before .before .loop .inv .3) (not-true _ (c .before .before .before .before .before .before .before .before .before .if1 .taken)) (c .before .before .before .before .pass .ensures))
 
 returns : tie.Need-returns Inv-loop μ-loop
 returns c = search needs
