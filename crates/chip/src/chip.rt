@@ -413,7 +413,7 @@ fn none_held(held: usize) -> bool
 
 // The registers with a number stored at one of them. Every place is visited: with a computed one the compiler copies the whole record
 // at every operation (docs/PERFORMANCE.md).
-fn stored(mut sources: [u32; 8], at: usize, number: u32) -> [u32; 8]
+pub fn stored(mut sources: [u32; 8], at: usize, number: u32) -> [u32; 8]
     ensures { λ r. ⌜ r ≡ set sources at number ⌝ }
 {
     let mut i = 0;

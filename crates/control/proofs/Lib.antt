@@ -2,3 +2,4 @@
 pub mod FreshLaws
 pub mod HeaderLaws
 pub mod ReplyLaws
+pub mod StatusLaws

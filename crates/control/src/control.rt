@@ -123,7 +123,7 @@ impl Control {
 }
 
 // A setting after its pair of bits: the odd bit wins.
-fn pair(even: bool, odd: bool, before: bool) -> bool
+pub fn pair(even: bool, odd: bool, before: bool) -> bool
     ensures { λ r. ⌜ r ≡ pair even odd before ⌝ }
 {
     if odd {

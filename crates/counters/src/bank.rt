@@ -121,7 +121,8 @@ fn cleared_values(mut values: [u32; 16], mask: u16) -> [u32; 16]
     values
 }
 
-fn chosen(old: u32, yes: bool, new: u32) -> u32
+// One of two numbers.
+pub fn chosen(old: u32, yes: bool, new: u32) -> u32
     ensures { λ r. ⌜ r ≡ cond yes new old ⌝ }
 {
     if yes { new } else { old }
