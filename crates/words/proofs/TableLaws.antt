@@ -32,12 +32,12 @@ every f i [] = true
 every f i (x ∷ xs) = f i x && every f (suc i) xs
 
 -- so it passes at any
-from : (f : ℕ → ℕ → Bool) (xs : List ℕ) (i : ℕ) → every f i xs ≡ true → (k : ℕ) → k < length xs → f (i + k) (getD xs k 0) ≡ true
-from f [] i t k h = absurd (not-suc-le-zero h)
-from f (x ∷ xs) i t zero h = rw add-zero (both-left (f i x) (every f (suc i) xs) t)
-from f (x ∷ xs) i t (suc k) h =
+pub every-from : (f : ℕ → ℕ → Bool) (xs : List ℕ) (i : ℕ) → every f i xs ≡ true → (k : ℕ) → k < length xs → f (i + k) (getD xs k 0) ≡ true
+every-from f [] i t k h = absurd (not-suc-le-zero h)
+every-from f (x ∷ xs) i t zero h = rw add-zero (both-left (f i x) (every f (suc i) xs) t)
+every-from f (x ∷ xs) i t (suc k) h =
     ap (λ (m : ℕ). f m (getD xs k 0)) (add-suc i k ∙ sym (suc-add i k))
-    ∙ from f xs (suc i) (both-right (f i x) (every f (suc i) xs) t) k (le-of-suc-le-suc h)
+    ∙ every-from f xs (suc i) (both-right (f i x) (every f (suc i) xs) t) k (le-of-suc-le-suc h)
 
 -- document 01's rule as a test of one entry: it is a bit, and "bits 0..8 together have an odd number of ones"
 unfoldable pub oddEntry : ℕ → ℕ → Bool
@@ -60,7 +60,7 @@ unfolding parityTable
 odd-table l n t =
     ext-getD 0 l (tabulate parityOf 0 256) (n ∙ sym (tabulate-length parityOf 0 256)) (λ i h.
     let few : i < 256 = subst (λ (m : ℕ). i < m) n h in
-    odd-bit i (getD l i 0) few (ap (λ (m : ℕ). oddEntry m (getD l i 0)) (sym (zero-add i)) ∙ from oddEntry l 0 t i h)
+    odd-bit i (getD l i 0) few (ap (λ (m : ℕ). oddEntry m (getD l i 0)) (sym (zero-add i)) ∙ every-from oddEntry l 0 t i h)
     ∙ sym (tabulate-at parityOf 0 256 i few ∙ ap parityOf (zero-add i)))
 
 -- what is looked up in the table
