@@ -1,3 +1,5 @@
 -- The laws that belong to no one function.
+pub mod AddressLaws
 pub mod ChipLaws
+pub mod RoomLaws
 pub mod TableLaws
