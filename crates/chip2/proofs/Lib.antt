@@ -1,5 +1,7 @@
 -- The laws that belong to no one function.
 pub mod AddressLaws
 pub mod ChipLaws
+pub mod Replies
+pub mod Resets
 pub mod RoomLaws
 pub mod TableLaws
