@@ -1,5 +1,6 @@
 -- The laws that belong to no one function.
 pub mod AddressLaws
+pub mod Bounds
 pub mod ChipLaws
 pub mod Replies
 pub mod Resets
