@@ -2,6 +2,8 @@
 pub mod AddressLaws
 pub mod Bounds
 pub mod ChipLaws
+pub mod LineLaws
+pub mod Refusals
 pub mod Replies
 pub mod Resets
 pub mod RoomLaws
