@@ -7,4 +7,5 @@ pub mod Refusals
 pub mod Replies
 pub mod Resets
 pub mod RoomLaws
+pub mod Sends
 pub mod TableLaws
