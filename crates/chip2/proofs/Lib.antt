@@ -8,4 +8,7 @@ pub mod Replies
 pub mod Resets
 pub mod RoomLaws
 pub mod Sends
+pub mod Shadows
 pub mod TableLaws
+pub mod Ticks
+pub mod Words
