@@ -5,11 +5,10 @@ use native.Mathlib.Nat.{add-assoc}
 use native.Mathlib.Omega.{arith}
 use mathlib.Core.Path.{_≡_, refl, sym, ap, _∙_}
 use mathlib.Core.Bool.{Bool, true, false, cond, _&&_, _||_}
-use lib.Dec.{eqb}
 use Rattle.counters.specs.Bank.{bit}
 use Rattle.counters.proofs.TickLaws.{events-sum}
 use Rattle.counters2.specs.Clocks.{nodeClocks, phaseAfter, selected, stampClocks}
-use Rattle.counters2.specs.Codes.{byClock, enabled, whileHigh}
+use Rattle.counters2.specs.Codes.{byClock, enabled, onHundredth, onNode, onStamp, onTenth, whileHigh}
 use Rattle.counters2.specs.Counts.{enableOf, modeOf, ownTicks, selectOf}
 use Rattle.counters2.specs.declared.clocks.Clocks.{Clocks}
 use Rattle.counters2.specs.declared.fields.Fields.{Fields}
@@ -19,7 +18,7 @@ abbrev pub together : Clocks → Clocks → Clocks
 together a b = record { node = a .node + b .node; tenth = a .tenth + b .tenth; hundredth = a .hundredth + b .hundredth; stamp = a .stamp + b .stamp }
 
 selected-sum : (code : ℕ) (a b : Clocks) → selected code a + selected code b ≡ selected code (together a b)
-selected-sum code a b = go (eqb code 1 || eqb code 5) (eqb code 2 || eqb code 6) (eqb code 3 || eqb code 7) (eqb code 4)
+selected-sum code a b = go (onNode code) (onTenth code) (onHundredth code) (onStamp code)
   where
     by : Bool → Bool → Bool → Bool → Clocks → ℕ
     by n t h s c = cond n (c .node) (cond t (c .tenth) (cond h (c .hundredth) (cond s (c .stamp) 0)))
@@ -42,7 +41,7 @@ own-sum f lines a b i = go (enabled (enableOf f i) && (byClock (modeOf f i) || (
 pub own-none : (f : Fields) (lines : ℕ) (c : Clocks) → c .node ≡ 0 → c .tenth ≡ 0 → c .hundredth ≡ 0 → c .stamp ≡ 0 → (i : ℕ) → ownTicks f lines c i ≡ 0
 own-none f lines c n t h s i =
     go (enabled (enableOf f i) && (byClock (modeOf f i) || (whileHigh (modeOf f i) && bit lines i)))
-    (eqb (selectOf f i) 1 || eqb (selectOf f i) 5) (eqb (selectOf f i) 2 || eqb (selectOf f i) 6) (eqb (selectOf f i) 3 || eqb (selectOf f i) 7) (eqb (selectOf f i) 4)
+    (onNode (selectOf f i)) (onTenth (selectOf f i)) (onHundredth (selectOf f i)) (onStamp (selectOf f i))
   where
     go : (x a b d e : Bool) → cond x (cond a (c .node) (cond b (c .tenth) (cond d (c .hundredth) (cond e (c .stamp) 0)))) 0 ≡ 0
     go false a b d e = refl

@@ -14,7 +14,7 @@ use Rattle.counters.specs.Bank.{bit}
 use Rattle.counters.specs.declared.bank.Bank.{Bank}
 use Rattle.counters.proofs.EachLaws.{each-at}
 use Rattle.counters2.specs.Clocks.{selected}
-use Rattle.counters2.specs.Codes.{byClock, byExternal, bySoftware, enabled, restarts, whileHigh}
+use Rattle.counters2.specs.Codes.{byClock, byExternal, bySoftware, enabled, onHundredth, onNode, onStamp, onTenth, restarts, whileHigh}
 use Rattle.counters2.specs.Counts.{enableOf, modeOf, ownSignals, ownSoftware, ownTicks, restarted, selectOf}
 use Rattle.counters2.specs.Fields.{clocking, enabling, fieldAt, kept, moding}
 use Rattle.counters2.specs.Table.{clockTable, enableTable, modeTable}
@@ -97,10 +97,10 @@ module _ (f : Fields) (i : ℕ) where
   unfolding agree
   selected-is c =
       (λ k.
-      cond (clock (λ x. eqb x 1 || eqb x 5) 1 refl k) (c .node)
-      (cond (clock (λ x. eqb x 2 || eqb x 6) 2 refl k) (c .tenth)
-      (cond (clock (λ x. eqb x 3 || eqb x 7) 3 refl k) (c .hundredth)
-      (cond (clock (λ x. eqb x 4) 4 refl k) (c .stamp) 0))))
+      cond (clock onNode 1 refl k) (c .node)
+      (cond (clock onTenth 2 refl k) (c .tenth)
+      (cond (clock onHundredth 3 refl k) (c .hundredth)
+      (cond (clock onStamp 4 refl k) (c .stamp) 0))))
       ∙ go (clockSays f i)
     where
       clock : (test : ℕ → Bool) (n : ℕ) → every (λ x says. agree (test (x % 8)) (eqb says n)) 0 clockTable ≡ true → test (selectOf f i) ≡ eqb (clockSays f i) n
