@@ -1,13 +1,15 @@
 #!/usr/bin/env python3
-"""Compare bench and twin byte by byte on record files made from seeds.
+"""Compare a program and its twin byte by byte on record files made from seeds.
 
-    compare/compare.py [FIRST [SEEDS [COUNT]]]
+    compare/compare.py [second] [FIRST [SEEDS [COUNT]]]
 
-Runs both on the files of SEEDS seeds from FIRST on, COUNT records each, and
-says how many records were the same. Without words: seeds 0 to 63, 32,768
-records each, which is what the gate compares; other seeds are other files.
-A difference ends it with status 1, the seed, the line and both answers.
-It needs rustc for the twin; the bench is built by run-bench if need be.
+Runs bench and twin, or with `second` the MultiKron II's chip2_run and its twin,
+on the files of SEEDS seeds from FIRST on, COUNT records each, and says how many
+records were the same. Without numbers: seeds 0 to 63, 32,768 records each,
+which is what the gate compares; other seeds are other files. A difference ends
+it with status 1, the seed, the line and both answers. It needs rustc for the
+twin; the bench is built by run-bench if need be, chip2_run by `rt check
+chip2_run`.
 """
 
 import concurrent.futures
@@ -17,6 +19,9 @@ import sys
 import tempfile
 
 ROOT = os.path.dirname(os.path.dirname(os.path.abspath(__file__)))
+# For each edition: the program's name, how it is run, its twin, the generator of its records and their size.
+FIRST = ("bench", ["./run-bench"], "twin/main.rs", "compare/generate.py", 12)
+SECOND = ("chip2_run", ["target/bin/chip2_run"], "twin2/main.rs", "compare/generate2.py", 16)
 
 
 def output(command, data=b""):
@@ -38,34 +43,39 @@ def first_difference(ours, theirs):
     return None
 
 
-def compare(seed, count, twin):
-    records = output([sys.executable, "compare/generate.py", str(seed), str(count)])
-    ours = output(["./run-bench"], records)
+def compare(seed, count, edition, twin):
+    name, program, _, generator, size = edition
+    records = output([sys.executable, generator, str(seed), str(count)])
+    ours = output(program, records)
     theirs = output([twin], records)
     if ours == theirs:
-        return len(records) // 12, None
+        return len(records) // size, None
     line, one, two = first_difference(ours, theirs)
-    return 0, f"compare: seed {seed}, {count} records, line {line} of the output: bench {one!r}, twin {two!r}"
+    return 0, f"compare: seed {seed}, {count} records, line {line} of the output: {name} {one!r}, twin {two!r}"
 
 
 def main():
-    words = [int(word) for word in sys.argv[1:]] + [0, 64, 32768][len(sys.argv) - 1 :]
+    given = sys.argv[1:]
+    edition = SECOND if given[:1] == ["second"] else FIRST
+    given = given[1:] if edition is SECOND else given
+    words = [int(word) for word in given] + [0, 64, 32768][len(given) :]
     if len(words) != 3:
         sys.exit(__doc__)
     first, seeds, count = words
+    name, program, source, _, _ = edition
     with tempfile.TemporaryDirectory() as folder:
         twin = os.path.join(folder, "twin")
-        output(["rustc", "--edition", "2021", "-O", "-o", twin, "twin/main.rs"])
-        # The bench is built once before it is run twice at a time.
-        output(["./run-bench"])
+        output(["rustc", "--edition", "2021", "-O", "-o", twin, source])
+        # The program is run once, and so built if need be, before it is run twice at a time.
+        output(program)
         with concurrent.futures.ThreadPoolExecutor(2) as pool:
-            results = list(pool.map(lambda seed: compare(seed, count, twin), range(first, first + seeds)))
+            results = list(pool.map(lambda seed: compare(seed, count, edition, twin), range(first, first + seeds)))
     differences = [said for _, said in results if said]
     for said in differences:
         print(said)
     if differences:
         sys.exit(1)
-    print(f"compare: bench and twin agree on {sum(same for same, _ in results)} records, seeds {first} to {first + seeds - 1}")
+    print(f"compare: {name} and twin agree on {sum(same for same, _ in results)} records, seeds {first} to {first + seeds - 1}")
 
 
 main()
