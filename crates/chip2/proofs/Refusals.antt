@@ -1,4 +1,5 @@
--- The table's columns "Value" and "Record" for every reply but 0, on the MultiKron II: each arm of the definitions gives what its row says. Assumes nothing.
+-- The table's columns "Value" and "Record" for every reply but 0, on the MultiKron II: each arm of the definitions gives what its row says. Assumes
+-- nothing.
 use Prim.Native.Nat.{ℕ, _^_}
 use mathlib.Core.Path.{_≡_, refl, sym, ap, subst, _∙_}
 use mathlib.Core.Bool.{Bool, true, false, cond, _&&_}
