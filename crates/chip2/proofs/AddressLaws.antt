@@ -5,15 +5,15 @@ use native.Mathlib.Omega.{arith}
 use mathlib.Core.Path.{_≡_, refl, sym, ap, _∙_}
 use mathlib.Core.Bool.{Bool, true, false}
 use mathlib.Core.List.{[], _∷_}
-use lib.Dec.{leb}
-use borrow.Author.Tests.{lt-ltb, le-ltb, le-leb, lt-leb, leb-true, leb-false}
+use lib.Dec.{eqb, leb}
+use borrow.Author.Tests.{lt-ltb, le-ltb, le-leb, lt-leb, leb-true, leb-false, ne-eqb}
 use Rattle.chip.specs.Place.{between}
 use Rattle.chip.specs.Rows.{triggering}
 use Rattle.chip.proofs.AddressLaws.{between-in, same, tests-same, upTo}
-use Rattle.chip2.specs.Place.{placeOf}
+use Rattle.chip2.specs.Place.{placeOf, registerOf, resets}
 use Rattle.chip2.specs.Rows.{counterAt, shadowAt}
 use Rattle.chip2.specs.declared.place.Place.{Place}
-use Rattle.chip2.specs.declared.place.Place.the-variants.{Beyond, Source, Counter, Shadow, Trigger}
+use Rattle.chip2.specs.declared.place.Place.the-variants.{Beyond, Reset, Source, Counter, Shadow, Trigger}
 
 pub place-beyond : (a : ℕ) → 127 < a → placeOf a ≡ Beyond
 unfolding placeOf
@@ -60,3 +60,13 @@ unfolding placeOf
 place-shadow a e =
     let p : (80 ≤ a) × (a ≤ 95) = between-in 80 95 a e in
     simp (le-ltb a 32 (omega arith), lt-leb a 39 (omega arith), lt-leb a 79 (omega arith), le-leb a 95 (p .1), le-leb 80 a (p .0))
+
+-- a reset stands at 0 alone
+pub place-resets : (a : ℕ) → resets (placeOf a) ≡ eqb a 0
+unfolding placeOf registerOf
+place-resets a = place-test resets (λ b. eqb b 0) refl refl (λ b h. ne-eqb b 0 (λ e. omega arith)) a
+
+-- and what stands there is the reset
+pub place-reset : placeOf 0 ≡ Reset
+unfolding placeOf registerOf
+place-reset = refl

@@ -1,6 +1,6 @@
 -- Document 001, Table B4, as Wish 9 of document 02 has it: what stands at an address of the MultiKron II in normal mode.
 use Prim.Native.Nat.{ℕ, _-_}
-use mathlib.Core.Bool.{true, false, cond}
+use mathlib.Core.Bool.{Bool, true, false, cond}
 use lib.Dec.{ltb, eqb}
 use Rattle.chip.specs.Place.{between}
 use Rattle.chip2.specs.declared.place.Place.{Place}
@@ -31,3 +31,22 @@ placeOf a =
     (cond (between 96 111 a) (Trigger false (a - 96))
     (cond (between 112 127 a) (Trigger true (a - 112))
     (cond (ltb 127 a) Beyond Nowhere))))))
+
+-- whether a write there is a software reset
+abbrev pub resets : Place → Bool
+resets Beyond = false
+resets Nowhere = false
+resets Reset = true
+resets Csr = false
+resets Timestamp = false
+resets Filter = false
+resets Waits = false
+resets Overruns = false
+resets HighOrder = false
+resets Enable = false
+resets Mode = false
+resets Select = false
+resets (Source i) = false
+resets (Counter i) = false
+resets (Shadow i) = false
+resets (Trigger resource level) = false

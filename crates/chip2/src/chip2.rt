@@ -21,11 +21,12 @@ use queue::queue::Queue;
 use samples::edition::Edition;
 use words::parity::parities;
 ghost use mathlib.Core.Path.{_≡_};
-ghost use mathlib.Core.Bool.{cond};
+ghost use mathlib.Core.Bool.{cond, false};
 ghost use Prim.Native.Nat.{_<_, _^_};
 ghost use lib.ListN.{getD, length, set};
 ghost use Rattle.counters.specs.Bank.{copied};
 ghost use Rattle.chip.specs.Chip.{blocked, noneHeld};
+ghost use Rattle.chip2.specs.Place.{resets};
 ghost use Rattle.chip2.specs.Told.{told};
 ghost use Rattle.chip2.specs.Table.{sendBy};
 ghost use Rattle.chip2.specs.Chip2.{afterNodes, afterTicks, configuredAll, dataOf, done, enabledAll, externalEvents, fateOf, fresh, given, hardReset, inside, nodeTicks, read, readAt, readCounter, replied, sampleNow, send, sendInto, sentBuffer, softReset, statusOf, takeSample, timestampTicks, trigger, triggerBy, withBank, withControl, withFields, withHigh, withSources, withStamp, write, writeAt};
@@ -147,6 +148,10 @@ impl Chip2 {
         ensures { λ r. ⌜ told r ≡ write address bits lines self ⌝ }
     {
         if self.inside() {
+            // A reset by itself: as one arm among the writes it makes the compiler move the whole record at each of them.
+            if address == 0 {
+                return Chip2::fresh_with(self.stamp).done(0);
+            }
             return self.write_at(find(address), self.data_of(bits), lines);
         }
         self.replied(Reply::Outside)
@@ -235,14 +240,15 @@ impl Chip2 {
 }
 
 impl Chip2 {
-    // A write, by what stands at the address.
+    // A write but a reset, by what stands at the address.
     fn write_at(self, place: Place, bits: u64, lines: u8) -> Answer
+        requires { ⌜ resets place ≡ false ⌝ }
         ensures { λ r. ⌜ told r ≡ writeAt place bits lines self ⌝ }
     {
         match place {
             Place::Beyond => self.replied(Reply::TooHigh),
             Place::Nowhere => self.replied(Reply::Nothing),
-            Place::Reset => Chip2::fresh_with(self.stamp).done(0),
+            Place::Reset => self.done(0),
             Place::Csr => self.configured(bits).done(0),
             Place::Timestamp => self.replied(Reply::Forbidden),
             Place::Filter => self.controlled(self.control.filtering(bits)).done(0),

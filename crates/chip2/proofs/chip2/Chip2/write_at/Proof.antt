@@ -1,6 +1,8 @@
 -- `chip2::chip2::Chip2::write_at` meets its contract: each arm is one case of the map. Assumes nothing.
 use borrow.Author.Needs.{needs}
-use mathlib.Core.Path.{sym, ap, _∙_}
+use mathlib.Core.Path.{_≡_, sym, ap, _∙_}
+use mathlib.Core.Bool.{false, false≢true}
+use Rattle.chip2.specs.Place.{resets}
 use Rattle.chip2.specs.Chip2.{done, withBank, withControl, withFields, writeAt}
 use Rattle.chip2.specs.declared.place.Place.{Place}
 use Rattle.chip2.proofs.chip2.Chip2.write_at.Statement.{statement}
@@ -20,9 +22,6 @@ replied-requires-2 c κs = search needs
 
 enum-told-3 : tie.Need-enum-told-3
 enum-told-3 c = search needs
-
-fresh-with-requires : tie.Need-fresh-with-requires
-fresh-with-requires c κs = search needs
 
 done-requires : tie.Need-done-requires
 done-requires c κs = search needs
@@ -183,11 +182,10 @@ returns-2 c =
     c .replied2 .ensures ∙ ap (λ (p : Place). writeAt p (a .bits) (a .lines) s) (sym (c .before .enum-told2 .given .1))
 
 returns-3 : tie.Need-returns-3
-unfolding writeAt
 returns-3 c =
-    let a = c .before .before .before .before .args in
-    let s = a .self in
-    c .done .ensures ∙ ap (done 0) (c .before .fresh-with .ensures) ∙ ap (λ (p : Place). writeAt p (a .bits) (a .lines) s) (sym (c .before .before .enum-told3 .given .1))
+    let a = c .before .before .before .args in
+    let other : resets (a .place) ≡ false = search needs in
+    absurd (false≢true (sym other ∙ ap resets (c .before .enum-told3 .given .1)))
 
 returns-4 : tie.Need-returns-4
 unfolding writeAt
@@ -289,7 +287,6 @@ write-at-spec =
     enum-told-2
     replied-requires-2
     enum-told-3
-    fresh-with-requires
     done-requires
     enum-told-4
     configured-requires
