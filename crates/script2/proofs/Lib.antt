@@ -1,0 +1,5 @@
+-- The laws that belong to no one function.
+pub mod BlockLaws
+pub mod FillLaws
+pub mod LineLaws
+pub mod RecordLaws
