@@ -1,0 +1,1 @@
+-- The laws and the theorems of demand 3 for the MultiKron II.

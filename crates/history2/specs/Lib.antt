@@ -1,0 +1,2 @@
+pub mod Counts2
+pub mod Ledger2
