@@ -12,9 +12,9 @@ use Rattle.chip.specs.Operation.{Operation, opReset, opWrite, opRead, opTicks, 
 use Rattle.chip.proofs.ChipLaws.{either}
 use Rattle.history.specs.Ledger.{Fate, Ledger, NoDiscard, Settings, afterAll, afterFate, afterOne, choiceAfter, configured, discardAfter, discardOf, entryOf, fateIn, filtering, held, isSet, ledgerOf, lostCleared, resetAt, sampleIn, settingAfter, settingOf, turned, wasLost, wasTold, withErrors, withSettings, written}
 use Rattle.history.specs.Stream.{Every, Unmarked, isBlocked, isFull}
+use Rattle.history.proofs.ControlLaws.{pair-turned}
 use Rattle.history.proofs.HeldLaws.{every-more}
 use Rattle.history.proofs.Leaves.{all-leave, fate-leaves, one-leaves, write-leaves}
-use Rattle.history.proofs.Steps.{pair-turned}
 use Rattle.history.proofs.Triggers.{or-left, or-right}
 
 -- ---- what goes by the settings and the choice alone

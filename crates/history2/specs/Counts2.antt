@@ -26,6 +26,10 @@ pub data Count : Type 0 where
   apart : Tally → Tally → Count
   joined : Tally → Count
 
+abbrev pub isJoined : Count → Bool
+isJoined (apart a b) = false
+isJoined (joined t) = true
+
 -- the tables' "** default setting": disabled, external and single, Timestamp clock; and a number just written
 abbrev pub noControl : Control2
 noControl = record { enable = 1; mode = 4; select = 4 }

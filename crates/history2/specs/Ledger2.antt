@@ -2,7 +2,7 @@
 -- the oldest operation: unbounded numbers and lists; nothing of the chip's record is in it, and the chip is not run. It goes by addresses and bits as
 -- numbers, and shares with the chip's definitions the operations and the sample with its layout, nothing else; settings, errors and fates are the first
 -- chip's ledger's. Quotations are of document 01 where nothing else is named; "DECISIONS" is docs/DECISIONS.md, "The MultiKron II".
-use Prim.Native.Nat.{ℕ, suc, _+_, _-_, _*_, _/_, _%_, _^_, min}
+use Prim.Native.Nat.{ℕ, _+_, _-_, _*_, _/_, _%_, _^_, min}
 use mathlib.Core.Bool.{Bool, true, false, cond, _||_}
 use mathlib.Core.List.{List, [], _∷_, _++_}
 use lib.Dec.{eqb, leb, ltb}
