@@ -23,7 +23,7 @@ use Rattle.chip.proofs.ChipLaws.{by-bounds}
 use Rattle.chip.proofs.RoomLaws.{rows-busy}
 
 -- what a row but 0 says of the value and of the next record, by its number; `r` is for a Resource trigger
-abbrev valueAt : ℕ → ℕ
+abbrev pub valueAt : ℕ → ℕ
 valueAt n = cond (eqb n 11) (2 ^ 63) 0
 
 abbrev recordAt : Bool → ℕ → Chip → Chip
@@ -31,7 +31,7 @@ recordAt r n c =
     cond (eqb n 8) (withControl (overran (full (c .queue)) (blocked r (c .queue)) (c .control)) c)
     (cond (eqb n 10) (withControl (waited (c .control)) c) c)
 
-abbrev Unless : Bool → Type 0 → Type 0
+abbrev pub Unless : Bool → Type 0 → Type 0
 Unless true T = Unit
 Unless false T = T
 
@@ -138,7 +138,7 @@ kept (opFill room) c = kept-guard false (inside c) c (done _ _) tt
 -- ---- the columns
 
 -- a number that is a refusal is none that isn't
-refused-not : (n m : ℕ) → refused n ≡ true → refused m ≡ false → eqb n m ≡ false
+pub refused-not : (n m : ℕ) → refused n ≡ true → refused m ≡ false → eqb n m ≡ false
 refused-not n m e p = ne-eqb n m (λ q. false≢true (sym p ∙ ap refused (sym q) ∙ e))
 
 kept-refused : (r : Bool) (c : Chip) (n v : ℕ) (d : Chip) → refused n ≡ true → Kept r c n v d → (v ≡ 0) × (d ≡ c)

@@ -31,7 +31,7 @@ use Rattle.chip.proofs.RoomLaws.{rows-busy, rows-room}
 -- ---- the rows by their tests
 
 -- all rows at once, the last by the others, and which of their numbers a reply is
-abbrev table : Bool → Bool → Bool → Bool → Bool → Bool → Bool → Bool → Bool → Bool → Bool → List Bool
+abbrev pub table : Bool → Bool → Bool → Bool → Bool → Bool → Bool → Bool → Bool → Bool → Bool → List Bool
 table x15 x1 x2 x3 x4 x5 x6 x7 x8 x10 x11 =
     x15 ∷ x1 ∷ x2 ∷ x3 ∷ x4 ∷ x5 ∷ x6 ∷ x7 ∷ x8 ∷ x10 ∷ x11 ∷ not (x15 || (x1 || (x2 || (x3 || (x4 || (x5 || (x6 || (x7 || (x8 || (x10 || x11)))))))))) ∷ []
 
@@ -39,7 +39,7 @@ abbrev rows : Operation → Chip → List Bool
 rows op c =
     table (row15 op c) (row1 op c) (row2 op c) (row3 op c) (row4 op c) (row5 op c) (row6 op c) (row7 op c) (row8 op c) (row10 op c) (row11 op c)
 
-abbrev marks : ℕ → List Bool
+abbrev pub marks : ℕ → List Bool
 marks r = map (λ n. eqb r n) (15 ∷ 1 ∷ 2 ∷ 3 ∷ 4 ∷ 5 ∷ 6 ∷ 7 ∷ 8 ∷ 10 ∷ 11 ∷ 0 ∷ [])
 
 -- what the rows ask of an address
@@ -47,7 +47,7 @@ abbrev tests : ℕ → List Bool
 tests a = ltb 127 a ∷ vacant a ∷ readOnly a ∷ writeOnly a ∷ triggering a ∷ counterAt a ∷ []
 
 -- the rows of a write and of a read, by the record's bounds, the address's tests, and what else they ask
-abbrev writeRows : Bool → List Bool → Bool → Bool → Bool → Bool → Bool → List Bool
+abbrev pub writeRows : Bool → List Bool → Bool → Bool → Bool → Bool → Bool → List Bool
 writeRows i t o s f l w =
     let taken = getD t 4 false in
     table (not i)
@@ -62,7 +62,7 @@ writeRows i t o s f l w =
     (i && (taken && (o && (s && (f && (l && w)))) || false))
     (i && false)
 
-abbrev readRows : Bool → List Bool → Bool → Bool → List Bool
+abbrev pub readRows : Bool → List Bool → Bool → Bool → List Bool
 readRows i t b w =
     table (not i)
     (i && getD t 0 false)
@@ -156,11 +156,11 @@ marks-guarded : (b : Bool) (c : Chip) (x : Told) (f : Bool → List Bool) → ma
 marks-guarded b c x f p q = by-bounds (λ t y. marks (y .number) ≡ f t) b c x p q
 
 -- where a row can only be 15 or, for a single send, 5
-abbrev fewRows : Bool → Bool → Bool → List Bool
+abbrev pub fewRows : Bool → Bool → Bool → List Bool
 fewRows x i n =
     table x (i && false) (i && false) (i && false) (i && false) (i && n) (i && false) (i && false) (i && false) (i && false) (i && false)
 
-marks-reset : (i : Bool) → marks 0 ≡ fewRows false i false
+pub marks-reset : (i : Bool) → marks 0 ≡ fewRows false i false
 marks-reset true = refl
 marks-reset false = refl
 

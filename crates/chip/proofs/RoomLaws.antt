@@ -40,7 +40,7 @@ some-cons (suc n) h hs =
     let here : Bool = leb 8 (getD hs n zeroHeld .header % 16) in
     ap (λ (b : Bool). here || b) (some-cons n h hs) ∙ or-swap here (leb 8 (h .header % 16)) (someResource n hs)
 
-some-any : (n : ℕ) (hs : List Held) → anyResource (take n hs) ≡ someResource n hs
+pub some-any : (n : ℕ) (hs : List Held) → anyResource (take n hs) ≡ someResource n hs
 unfolding anyResource someResource
 some-any zero hs = refl
 some-any (suc n) [] = sym (some-none (suc n))

@@ -88,7 +88,7 @@ module _ (r : Bool) (line bits : ℕ) (c : Chip) (small : line < 8) (s : Shaped 
 
 -- ---- "0 .. sample taken"
 
-differ : (n : ℕ) → n ≡ 0 → eqb n 0 ≡ false → ⊥
+pub differ : (n : ℕ) → n ≡ 0 → eqb n 0 ≡ false → ⊥
 differ n e p = false≢true (sym p ∙ ap (λ (m : ℕ). eqb m 0) e)
 
 trigger-done : (o r : Bool) (f : Fate) (line bits : ℕ) (c : Chip) → cond o (triggerBy f r line bits c) (replied Lines c) .number ≡ 0 → (cond o (triggerBy f r line bits c) (replied Lines c) ≡ done 0 (takeSample r line bits c)) × (o ≡ true)

@@ -1,5 +1,10 @@
 pub mod Chip2
 pub mod Operation
+pub mod Parts
 pub mod Place
+pub mod Repeat
+pub mod Rows
+pub mod Sent
+pub mod Shape
 pub mod Table
 pub mod Told
