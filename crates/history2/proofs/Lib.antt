@@ -1,4 +1,10 @@
 -- The laws and the theorems of demand 3 for the MultiKron II.
+pub mod Addresses2
 pub mod Agrees2
 pub mod CountLaws2
+pub mod Counters2
 pub mod DueLaws2
+pub mod Reads2
+pub mod Steps2
+pub mod Triggers2
+pub mod Writes2
