@@ -8,3 +8,5 @@ pub mod Reads2
 pub mod Steps2
 pub mod Triggers2
 pub mod Writes2
+pub mod Leaves2
+pub mod StreamLaws2
