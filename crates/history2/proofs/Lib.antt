@@ -4,9 +4,11 @@ pub mod Agrees2
 pub mod CountLaws2
 pub mod Counters2
 pub mod DueLaws2
+pub mod Leaves2
 pub mod Reads2
 pub mod Steps2
-pub mod Triggers2
-pub mod Writes2
-pub mod Leaves2
 pub mod StreamLaws2
+pub mod Theorems2
+pub mod Triggers2
+pub mod Walks2
+pub mod Writes2

@@ -2,6 +2,7 @@
 -- a list of operations tells of them: unbounded numbers, and the codes of document 001, Tables B5 to B7, as numbers. "DECISIONS" is docs/DECISIONS.md, "The
 -- MultiKron II".
 use Prim.Native.Nat.{ℕ, suc, _+_, _-_, _*_, _/_, _%_, _^_}
+use mathlib.Core.Path.{_≡_}
 use mathlib.Core.Bool.{Bool, true, false, cond, _&&_, _||_}
 use mathlib.Core.List.{List, [], _∷_}
 use lib.Dec.{eqb, leb}
@@ -57,6 +58,11 @@ highOf (joined t) = totalIn t / 2 ^ 32 % 2 ^ 32
 -- both halves as one number
 abbrev pub bothOf : Count → ℕ
 bothOf c = lowOf c + 2 ^ 32 * highOf c
+
+-- Wish 9's sentence, of the numbers that an even counter and the odd one above it hold
+abbrev pub Holding : Count → ℕ → ℕ → Type 0
+Holding (apart a b) even odd = (even ≡ (a .written + a .events) % 2 ^ 32) × (odd ≡ (b .written + b .events) % 2 ^ 32)
+Holding (joined t) even odd = even + 2 ^ 32 * odd ≡ (t .written + t .events) % 2 ^ 64
 
 -- counters 0, 1, 2 and so on
 unfoldable pub flat : List Count → List ℕ
