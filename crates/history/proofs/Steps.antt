@@ -493,7 +493,7 @@ step-kept (opFill room) l q sh g = kept-guarded l q sh _ _ g (fill-kept l q sh g
 pub agrees-step : (op : Operation) (l : Ledger) (c : Chip) → Agrees l c → Kept (entryOf op l) (step op c)
 agrees-step op l c a = subst (λ (x : Chip). Kept (entryOf op l) (step op x)) (sym (a .is)) (step-kept op l (a .queue) (a .shadows) (a .good))
 
--- ---- a single send, on the ledger and by its number
+-- ---- a single send, on the ledger and by its answer
 pub send-leaves : (l : Ledger) → entryOf opSend l .ledger ≡ sentMore 1 l
 unfolding entryOf
 send-leaves l = go (eqb (left l) 0) refl
@@ -511,3 +511,7 @@ send-number l c a = agrees-step opSend l c a .number ∙ go (eqb (left l) 0)
     go : (b : Bool) → sendEntry l b .number ≡ cond b 5 0
     go true = refl
     go false = refl
+
+pub send-value : (l : Ledger) (c : Chip) → Agrees l c → eqb (left l) 0 ≡ false → step opSend c .value ≡ getD (wordsOfAll First (l .taken)) (l .sent) 0
+unfolding entryOf
+send-value l c a e = agrees-step opSend l c a .value ∙ ap (λ (b : Bool). sendEntry l b .value) e

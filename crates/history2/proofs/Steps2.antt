@@ -108,7 +108,7 @@ step-kept (opFill room) l q g = kept-guarded l q _ _ g (fill-kept l q g room)
 pub agrees-step : (op : Operation) (l : Ledger) (c : Chip2) → Agrees l c → Kept (entryOf op l) (step op c)
 agrees-step op l c a = subst (λ (x : Chip2). Kept (entryOf op l) (step op x)) (sym (a .is)) (step-kept op l (a .queue) (a .good))
 
--- ---- a single send, on the ledger and by its number
+-- ---- a single send, on the ledger and by its answer
 
 pub send-leaves : (l : Ledger) → entryOf opSend l .ledger ≡ sentMore 1 l
 unfolding entryOf
@@ -127,3 +127,7 @@ send-number l c a = agrees-step opSend l c a .number ∙ go (eqb (left l) 0)
     go : (b : Bool) → sendEntry l b .number ≡ cond b 5 0
     go true = refl
     go false = refl
+
+pub send-value : (l : Ledger) (c : Chip2) → Agrees l c → eqb (left l) 0 ≡ false → step opSend c .value ≡ getD (wordsOfAll Second (l .taken)) (l .sent) 0
+unfolding entryOf
+send-value l c a e = agrees-step opSend l c a .value ∙ ap (λ (b : Bool). sendEntry l b .value) e
