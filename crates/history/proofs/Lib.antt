@@ -7,6 +7,7 @@ pub mod Fits
 pub mod HeldLaws
 pub mod HoldsLaws
 pub mod Leaves
+pub mod RoomLaws
 pub mod SendLaws
 pub mod Steps
 pub mod StreamLaws
