@@ -26,7 +26,7 @@ abbrev pub Below : ℕ → (ℕ → Type 0) → Type 0
 Below zero P = Unit {0}
 Below (suc n) P = P n × Below n P
 
-below : (n : ℕ) (P : ℕ → Type 0) → Below n P → (a : ℕ) → a < n → P a
+pub below : (n : ℕ) (P : ℕ → Type 0) → Below n P → (a : ℕ) → a < n → P a
 below zero P b a h = absurd (not-suc-le-zero h)
 below (suc n) P b a h = go (eqb a n) refl (below n P (b .1))
   where
@@ -36,7 +36,7 @@ below (suc n) P b a h = go (eqb a n) refl (below n P (b .1))
 
 -- a test of each number from one up to another, none above 127
 module _ (first last : ℕ) (f : ℕ → List Bool) (ts : List Bool) (each : upTo 128 (λ b. not (between first last b) || same (f b) ts) ≡ true) where
-  tested : (a : ℕ) → first ≤ a → a ≤ last → a ≤ 127 → f a ≡ ts
+  pub tested : (a : ℕ) → first ≤ a → a ≤ last → a ≤ 127 → f a ≡ ts
   tested a p q h =
       let here : between first last a ≡ true = λ i. le-leb a last q i && le-leb first a p i in
       same-eq _ _ (or-rest (not (between first last a)) _ (upTo-at 128 (λ b. not (between first last b) || same (f b) ts) each a (omega arith)) (ap not here))

@@ -19,23 +19,13 @@ use Rattle.chip.specs.Told.{Told}
 use Rattle.chip.specs.declared.chip.Chip.{Chip}
 use Rattle.chip.proofs.ChipLaws.{guard-in}
 use Rattle.history.specs.Ledger.{Entry, Ledger, packed}
-use Rattle.history.proofs.CountLaws.{valueOf, wrapped}
+use Rattle.history.proofs.ControlLaws.{controlBy}
+use Rattle.history.proofs.CountLaws.{valueOf}
 use Rattle.history.proofs.HeldLaws.{Sixteen}
 use Rattle.history.proofs.HoldsLaws.{Holds, holds-inside}
 
 abbrev pub controlOf : Ledger → Control
-controlOf l =
-    record {
-      wait = wrapped (l .errors .waits);
-      overrun = wrapped (l .errors .lost);
-      filter = l .settings .filter;
-      sampling = l .settings .sampling;
-      writewait = l .settings .writewait;
-      readwait = l .settings .readwait;
-      flagfull = l .errors .flagfull;
-      flagbusy = l .errors .flagbusy;
-      lost = l .errors .mark;
-    }
+controlOf l = controlBy (l .settings) (l .errors)
 
 -- three registers, and the slow clock as the ledger has it
 abbrev pub switchesWith : ℕ → ℕ → ℕ → Ledger → Switches

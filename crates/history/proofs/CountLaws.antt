@@ -29,25 +29,25 @@ wrapped-grown n k = sym (mod-add-mod n (2 ^ 32) k)
 abbrev pub valueOf : Counter → ℕ
 valueOf k = wrapped (k .events)
 
--- ---- each counter in turn
+-- ---- each counter in turn, or each of other things
 
-pub each-length : (i : ℕ) (f : ℕ → Counter → Counter) (ks : List Counter) → length (eachFrom i f ks) ≡ length ks
+pub each-length : {A : Type 0} (i : ℕ) (f : ℕ → A → A) (ks : List A) → length (eachFrom i f ks) ≡ length ks
 unfolding eachFrom
 each-length i f [] = refl
 each-length i f (k ∷ ks) = ap suc (each-length (suc i) f ks)
 
-each-from : (i : ℕ) (f : ℕ → Counter → Counter) (ks : List Counter) (j : ℕ) → j < length ks → getD (eachFrom i f ks) j noCounter ≡ f (i + j) (getD ks j noCounter)
+each-from : {A : Type 0} (d : A) (i : ℕ) (f : ℕ → A → A) (ks : List A) (j : ℕ) → j < length ks → getD (eachFrom i f ks) j d ≡ f (i + j) (getD ks j d)
 unfolding eachFrom
-each-from i f [] j h = absurd (not-suc-le-zero h)
-each-from i f (k ∷ ks) zero h = ap (λ (n : ℕ). f n k) (sym (add-zero i))
-each-from i f (k ∷ ks) (suc j) h =
-    each-from (suc i) f ks j (le-of-suc-le-suc h) ∙ ap (λ (n : ℕ). f n (getD ks j noCounter)) (suc-add i j ∙ sym (add-suc i j))
+each-from d i f [] j h = absurd (not-suc-le-zero h)
+each-from d i f (k ∷ ks) zero h = ap (λ (n : ℕ). f n k) (sym (add-zero i))
+each-from d i f (k ∷ ks) (suc j) h =
+    each-from d (suc i) f ks j (le-of-suc-le-suc h) ∙ ap (λ (n : ℕ). f n (getD ks j d)) (suc-add i j ∙ sym (add-suc i j))
 
-each-at : (f : ℕ → Counter → Counter) (ks : List Counter) (j : ℕ) → j < length ks → getD (eachFrom 0 f ks) j noCounter ≡ f j (getD ks j noCounter)
-each-at f ks j h = each-from 0 f ks j h ∙ ap (λ (n : ℕ). f n (getD ks j noCounter)) (zero-add j)
+pub each-at : {A : Type 0} (d : A) (f : ℕ → A → A) (ks : List A) (j : ℕ) → j < length ks → getD (eachFrom 0 f ks) j d ≡ f j (getD ks j d)
+each-at d f ks j h = each-from d 0 f ks j h ∙ ap (λ (n : ℕ). f n (getD ks j d)) (zero-add j)
 
 -- what none of them changes stays
-pub each-same : {B : Type 0} (g : Counter → B) (i : ℕ) (f : ℕ → Counter → Counter) (ks : List Counter) → ((j : ℕ) (k : Counter) → g (f j k) ≡ g k) → map g (eachFrom i f ks) ≡ map g ks
+pub each-same : {A B : Type 0} (g : A → B) (i : ℕ) (f : ℕ → A → A) (ks : List A) → ((j : ℕ) (k : A) → g (f j k) ≡ g k) → map g (eachFrom i f ks) ≡ map g ks
 unfolding eachFrom
 each-same g i f [] h = refl
 each-same g i f (k ∷ ks) h = ap₂ (λ x l. x ∷ l) (h i k) (each-same g (suc i) f ks h)
@@ -98,7 +98,7 @@ pub packed-each : (g : Counter → Bool) (f : ℕ → Counter → Counter) (ks :
 packed-each g f ks n x e h p =
     let long : length (eachFrom 0 f ks) ≡ n = each-length 0 f ks ∙ e in
     packed-is g (eachFrom 0 f ks) x (rw long h)
-    (λ j q. let q′ : j < n = rw long at q in p j q′ ∙ ap g (sym (each-at f ks j (rw e q′))))
+    (λ j q. let q′ : j < n = rw long at q in p j q′ ∙ ap g (sym (each-at noCounter f ks j (rw e q′))))
 
 -- it has no other bits
 pub packed-lt : (g : Counter → Bool) (ks : List Counter) → packed g ks < 2 ^ length ks
@@ -118,7 +118,7 @@ values-each g f ks p =
     (length-map ks valueOf ∙ sym (length-map (eachFrom 0 f ks) valueOf ∙ each-length 0 f ks))
     (λ j q.
     let h : j < length ks = rw length-map at q in
-    ap (g j) (List·getD-map valueOf ks j noCounter) ∙ p j h ∙ ap valueOf (sym (each-at f ks j h)) ∙ sym (List·getD-map valueOf (eachFrom 0 f ks) j noCounter))
+    ap (g j) (List·getD-map valueOf ks j noCounter) ∙ p j h ∙ ap valueOf (sym (each-at noCounter f ks j h)) ∙ sym (List·getD-map valueOf (eachFrom 0 f ks) j noCounter))
 
 pub value-at : (ks : List Counter) (i : ℕ) → getD (map valueOf ks) i 0 ≡ valueOf (getD ks i noCounter)
 value-at ks i = List·getD-map valueOf ks i noCounter

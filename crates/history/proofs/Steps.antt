@@ -1,6 +1,6 @@
 -- Every operation keeps the relation between ledger and record, and replies what the ledger says. Assumes nothing.
-use Prim.Native.Nat.{ℕ, zero, suc, _+_, _-_, _*_, _/_, _%_, _^_, _<_, min}
-use native.Mathlib.Nat.{div-div-eq-div-mul, div-one, mod-add-mod, mod-lt, pow-suc}
+use Prim.Native.Nat.{ℕ, _+_, _-_, _/_, _%_, _^_, _<_, min}
+use native.Mathlib.Nat.{mod-add-mod, mod-lt}
 use native.Mathlib.Omega.{arith}
 use mathlib.Core.Path.{_≡_, refl, sym, ap, ap₂, _∙_, subst}
 use mathlib.Core.Bool.{Bool, true, false, cond, not, _&&_, _||_}
@@ -22,8 +22,9 @@ use Rattle.counters.specs.declared.switches.Switches.{Switches}
 use Rattle.counters.proofs.BitLaws.{bit-mod, disabled-bit, enabled-bit, high-bit, low-bit}
 use Rattle.queue.specs.Queue.{advanced, busy, emptyQueue, nextWord, sendMany, sendQueue}
 use Rattle.queue.specs.declared.queue.Queue.{Queue}
-use Rattle.control.specs.Control.{csrOf, one, pair, waited}
+use Rattle.control.specs.Control.{csrOf, waited}
 use Rattle.control.specs.Control.{configured as Control·configured}
+use Rattle.control.specs.declared.control.Control.{Control}
 use Rattle.control.specs.declared.reply.Reply.the-variants.{Busy, NoWord, Wait}
 use Rattle.chip.specs.Chip.{afterTicks, done, externalEvents, fresh, nodeTicks, read, readAt, readCounter, replied, send, sendInto, sendNow, timestampTicks, withBank, withChoice, withControl, withQueue, withStamp, write, writeAt}
 use Rattle.chip.specs.Operation.{Operation, opReset, opWrite, opRead, opTicks, opNodes, opEvents, opSend, opFill, step}
@@ -32,57 +33,15 @@ use Rattle.chip.specs.Told.{Told}
 use Rattle.chip.specs.declared.chip.Chip.{Chip}
 use Rattle.chip.specs.declared.place.Place.the-variants.{Beyond, Nowhere, Csr, Source, Trigger}
 use Rattle.chip.specs.declared.place.Place.the-variants.{Counter as Place·Counter}
-use Rattle.history.specs.Ledger.{Counter, Entry, Ledger, byRange, cleared, configured, counted, counterRead, csrIn, each, eachFrom, enabled, muxOf, happened, held, isSet, left, noCounter, packed, readIn, readLow, resetAt, selected, sentMore, slowIn, tells, entryOf, turned, vacant, waitedOne, withErrors, withSettings, withStream, withTicks, written, writtenLow}
+use Rattle.history.specs.Ledger.{Counter, Entry, Ledger, byRange, cleared, configured, counted, counterRead, csrIn, each, eachFrom, enabled, muxOf, happened, held, isSet, left, noCounter, packed, readIn, readLow, resetAt, selected, sentMore, slowIn, tells, entryOf, vacant, waitedOne, withErrors, withSettings, withStream, withTicks, written, writtenLow}
 use Rattle.history.specs.Stream.{anyHeld, isFull, totalOf, wordsOfAll}
 use Rattle.history.proofs.Addresses.{by-place, range-beyond, range-counter, range-source, range-trigger, range-vacant}
 use Rattle.history.proofs.Agrees.{Agrees, Good, Kept, chipFor, controlOf, kept-guarded, switchesOf, switchesWith}
+use Rattle.history.proofs.ControlLaws.{configured-control, csr-same}
 use Rattle.history.proofs.CountLaws.{counted-value, each-length, each-same, packed-bit, packed-each, packed-lt, packed-same, selects-number, slow-same, under, value-at, valueOf, values-each}
 use Rattle.history.proofs.HeldLaws.{Sixteen}
 use Rattle.history.proofs.HoldsLaws.{Holds, holds-advanced, holds-busy, holds-copied, holds-empty, holds-full, holds-none, holds-some, next-is, many, many-count}
 use Rattle.history.proofs.Triggers.{told, trigger-kept}
-
--- ---- settings
-
--- a pair of bits, wherever it stands, and the number that it is
-pub pair-turned : (even bits : ℕ) (b : Bool) → pair (bit bits even) (bit bits (suc even)) b ≡ turned (bits / 2 ^ even % 4) b
-pair-turned even bits b =
-    ap₂ (λ (x y : ℕ). pair (eqb x 1) (eqb y 1) b) (low (bits / 2 ^ even)) (ap (λ (n : ℕ). n % 2) above ∙ high (bits / 2 ^ even))
-    ∙ go (bits / 2 ^ even % 4) (mod-lt (bits / 2 ^ even) (pow-pos 2))
-  where
-    low : (n : ℕ) → n % 2 ≡ n % 4 % 2
-    low n = omega arith
-
-    above : bits / 2 ^ suc even ≡ bits / 2 ^ even / 2
-    above = ap (λ (d : ℕ). bits / d) (pow-suc 2 even) ∙ sym (div-div-eq-div-mul bits (2 ^ even) 2)
-
-    high : (n : ℕ) → n / 2 % 2 ≡ n % 4 / 2
-    high n = omega arith
-
-    go : (m : ℕ) → m < 4 → pair (eqb (m % 2) 1) (eqb (m / 2) 1) b ≡ turned m b
-    go zero h = refl
-    go (suc zero) h = refl
-    go (suc (suc zero)) h = refl
-    go (suc (suc (suc zero))) h = refl
-    go (suc (suc (suc (suc m)))) h = absurd (omega arith)
-
--- the lowest pair stands at the number itself
-pub lowest-turned : (bits : ℕ) (b : Bool) → turned (bits / 2 ^ 0 % 4) b ≡ turned (bits % 4) b
-lowest-turned bits b = ap (λ (n : ℕ). turned (n % 4) b) (div-one bits)
-
--- the CSR's bits as numbers
-csr-same : (full shadows : Bool) (l : Ledger) → csrOf full shadows (controlOf l) ≡ (cond (l .settings .sampling) 1 0 + cond (l .settings .writewait) 4 0 + cond (l .settings .readwait) 16 0) + (cond full 64 0 + cond shadows 128 0) + (cond (l .errors .flagfull) 256 0 + cond (l .errors .flagbusy) 512 0)
-csr-same full shadows l =
-    let s = l .settings in
-    let e = l .errors in
-    λ i. (bit-0 (s .sampling) i + flag 4 (s .writewait) i + flag 16 (s .readwait) i) + (flag 64 full i + flag 128 shadows i) + (flag 256 (e .flagfull) i + flag 512 (e .flagbusy) i)
-  where
-    bit-0 : (b : Bool) → one b ≡ cond b 1 0
-    bit-0 true = refl
-    bit-0 false = refl
-
-    flag : (n : ℕ) (b : Bool) → n * one b ≡ cond b n 0
-    flag n true = omega arith
-    flag n false = omega arith
 
 -- a single send, by whether nothing is left
 abbrev pub sendEntry : Ledger → Bool → Entry
@@ -125,15 +84,8 @@ module _ (l : Ledger) (q : Queue) (sh : List ℕ) (g : Good l q sh) where
   -- 1
   configured-kept : (bits : ℕ) → Kept (tells 0 0 (withSettings (configured bits (l .settings)) l)) (done 0 (withControl (Control·configured bits (controlOf l)) (chipFor l q sh)))
   configured-kept bits =
-      let s = l .settings in
-      other (withSettings (configured bits s) l) _
-      (λ i.
-      chipFor (withSettings (record {
-        sampling = (pair-turned 0 bits (s .sampling) ∙ lowest-turned bits (s .sampling)) i;
-        writewait = pair-turned 2 bits (s .writewait) i;
-        readwait = pair-turned 4 bits (s .readwait) i;
-        filter = s .filter;
-      }) l) q sh)
+      other (withSettings (configured bits (l .settings)) l) _
+      (ap (λ (k : Control). withControl k (chipFor l q sh)) (configured-control bits (l .settings) (l .errors)))
       refl refl refl
 
   -- ---- something is done to each counter
@@ -391,7 +343,7 @@ module _ (l : Ledger) (q : Queue) (sh : List ℕ) (g : Good l q sh) where
   csr-kept =
       same 0 _ _ refl refl
       (ap₂ (λ (a b : Bool). csrOf a b (controlOf l)) (holds-full First (l .taken) (l .sent) sh q (g .holds)) (holds-busy First (l .taken) (l .sent) sh q (g .holds))
-      ∙ csr-same (isFull (held l)) (anyHeld (held l)) l)
+      ∙ csr-same (isFull (held l)) (anyHeld (held l)) (l .settings) (l .errors))
 
   read-kept : (a : ℕ) → Kept (readIn a l) (readAt (placeOf a) (chipFor l q sh))
   unfolding readIn readAt byRange vacant readLow registerOf
@@ -541,7 +493,7 @@ step-kept (opFill room) l q sh g = kept-guarded l q sh _ _ g (fill-kept l q sh g
 pub agrees-step : (op : Operation) (l : Ledger) (c : Chip) → Agrees l c → Kept (entryOf op l) (step op c)
 agrees-step op l c a = subst (λ (x : Chip). Kept (entryOf op l) (step op x)) (sym (a .is)) (step-kept op l (a .queue) (a .shadows) (a .good))
 
--- ---- a single send, on the ledger and by its number
+-- ---- a single send, on the ledger and by its answer
 pub send-leaves : (l : Ledger) → entryOf opSend l .ledger ≡ sentMore 1 l
 unfolding entryOf
 send-leaves l = go (eqb (left l) 0) refl
@@ -559,3 +511,7 @@ send-number l c a = agrees-step opSend l c a .number ∙ go (eqb (left l) 0)
     go : (b : Bool) → sendEntry l b .number ≡ cond b 5 0
     go true = refl
     go false = refl
+
+pub send-value : (l : Ledger) (c : Chip) → Agrees l c → eqb (left l) 0 ≡ false → step opSend c .value ≡ getD (wordsOfAll First (l .taken)) (l .sent) 0
+unfolding entryOf
+send-value l c a e = agrees-step opSend l c a .value ∙ ap (λ (b : Bool). sendEntry l b .value) e

@@ -1,29 +1,28 @@
 -- The words that the chip gave, and those it will give, are those of the ledger's samples. Assumes nothing.
-use Prim.Native.Nat.{ℕ, zero, suc, _+_, _≤_, _<_, min}
-use native.Mathlib.Omega.{arith}
+use Prim.Native.Nat.{ℕ, zero, suc, _+_, _≤_, min}
 use mathlib.Core.Path.{_≡_, refl, sym, ap, ap₂, _∙_, subst}
 use mathlib.Core.Bool.{Bool, true, false, cond, false≢true}
-use mathlib.Core.List.{List, [], _∷_, _++_, append-nil}
+use mathlib.Core.List.{List, [], _∷_, _++_}
 use lib.Dec.{eqb}
-use lib.ListN.{length, take, drop, replicate, length-replicate, drop-of-length-le}
-use lib.Seq.{drop-cons, take-add, take-append-le, take-at, take-suc}
-use borrow.Author.Tests.{eqb-true, eqb-false}
+use lib.ListN.{length, take, drop, replicate}
+use lib.Seq.{take-append-le}
+use borrow.Author.Tests.{eqb-true}
 use Rattle.samples.specs.Layout.{sampleWords, widths}
 use Rattle.samples.specs.declared.edition.Edition.the-variants.{First}
-use Rattle.queue.specs.Queue.{sendBuffer, sendWords}
+use Rattle.queue.specs.Queue.{sendBuffer}
 use Rattle.queue.specs.declared.queue.Queue.{Queue}
-use Rattle.chip.specs.Chip.{inside, sentBuffer}
+use Rattle.chip.specs.Chip.{sentBuffer}
 use Rattle.chip.specs.Operation.{Operation, opReset, opWrite, opRead, opTicks, opNodes, opEvents, opSend, opFill, step}
 use Rattle.chip.specs.declared.chip.Chip.{Chip}
 use Rattle.chip.proofs.ChipLaws.{either as chip·either}
 use Rattle.history.specs.Ledger.{Fate, Ledger, afterFate, byRange, fateIn, left, readIn, sampleIn, entryOf, vacant, wasFiltered, wasLost, wasOff, wasTaken, wasTold, written, writtenLow}
 use Rattle.history.specs.Run.{comeWithin, streamAfter}
 use Rattle.history.specs.Stream.{wordsOfAll}
-use Rattle.history.proofs.Agrees.{Agrees, Kept, chipFor, for-inside}
+use Rattle.history.proofs.Agrees.{Agrees, for-inside}
 use Rattle.history.proofs.HeldLaws.{words-more, words-total}
-use Rattle.history.proofs.HoldsLaws.{many, many-count}
 use Rattle.history.proofs.Leaves.{read-leaves, write-leaves}
-use Rattle.history.proofs.Steps.{agrees-step, sendEntry}
+use Rattle.history.proofs.SendLaws.{fill-adds, send-adds, send-comes}
+use Rattle.history.proofs.Steps.{agrees-step, send-leaves, send-number, send-value}
 
 -- ---- the words sent so far
 
@@ -58,43 +57,19 @@ module _ (l : Ledger) (c : Chip) (a : Agrees l c) where
 
   -- a single send adds the next word, if one is left
   send-words : take (l .sent) (wordsOfAll First (l .taken)) ++ cond (eqb (step opSend c .number) 0) (step opSend c .value ∷ []) [] ≡ take (entryOf opSend l .ledger .sent) (wordsOfAll First (entryOf opSend l .ledger .taken))
-  unfolding entryOf
-  send-words = go (eqb (left l) 0) refl (k .number) (k .value)
-    where
-      k : Kept (entryOf opSend l) (step opSend c)
-      k = agrees-step opSend l c a
-
-      go : (b : Bool) → eqb (left l) 0 ≡ b → step opSend c .number ≡ sendEntry l b .number → step opSend c .value ≡ sendEntry l b .value → take (l .sent) (wordsOfAll First (l .taken)) ++ cond (eqb (step opSend c .number) 0) (step opSend c .value ∷ []) [] ≡ take (sendEntry l b .ledger .sent) (wordsOfAll First (sendEntry l b .ledger .taken))
-      go true e n v =
-          ap (λ (x : ℕ). take (l .sent) (wordsOfAll First (l .taken)) ++ cond (eqb x 0) (step opSend c .value ∷ []) []) n
-          ∙ append-nil (take (l .sent) (wordsOfAll First (l .taken)))
-      go false e n v =
-          let f : left l ≡ 0 → ⊥ = eqb-false (left l) 0 e in
-          let one : suc (l .sent) ≡ l .sent + min 1 (left l) = omega arith in
-          let here : l .sent < length (wordsOfAll First (l .taken)) = subst (λ (m : ℕ). l .sent < m) (sym (words-total First (l .taken) (a .good .sixteen))) (omega arith) in
-          ap₂ (λ (x y : ℕ). take (l .sent) (wordsOfAll First (l .taken)) ++ cond (eqb x 0) (y ∷ []) []) n v
-          ∙ sym (take-suc (wordsOfAll First (l .taken)) (l .sent) 0 here)
-          ∙ ap (λ (m : ℕ). take m (wordsOfAll First (l .taken))) one
+  send-words =
+      send-adds First (l .taken) (a .good .sixteen) (l .sent) (step opSend c .number) (step opSend c .value) (send-number l c a) (send-value l c a)
+      ∙ ap (λ (m : Ledger). take (m .sent) (wordsOfAll First (m .taken))) (sym (send-leaves l))
 
   fill-words : (room : ℕ) → take (l .sent) (wordsOfAll First (l .taken)) ++ take (step (opFill room) c .value) (sentBuffer c (replicate room 0)) ≡ take (l .sent + min room (left l)) (wordsOfAll First (l .taken))
-  unfolding entryOf sentBuffer sendBuffer
+  unfolding entryOf sentBuffer
   fill-words room =
       let q : Queue = a .queue in
       let sh : List ℕ = a .shadows in
-      let m : ℕ = min room (left l) in
-      let k : Kept (entryOf (opFill room) l) (step (opFill room) c) = agrees-step (opFill room) l c a in
-      let x = many First (l .taken) (a .good .sixteen) sh room (l .sent) q (a .good .holds) in
-      let size : length (sendWords (widths First) room sh q) ≡ m = many-count First (l .taken) (a .good .sixteen) sh room (l .sent) q (a .good .holds) in
-      let buffer : sentBuffer c (replicate room 0) ≡ sendWords (widths First) room sh q ++ drop (length (sendWords (widths First) room sh q)) (replicate room 0) =
-      ap (λ (d : Chip). sentBuffer d (replicate room 0)) (a .is) ∙ filled q sh room (for-inside l q sh (a .good)) in
-      ap₂ (λ (n : ℕ) (b : List ℕ). take (l .sent) (wordsOfAll First (l .taken)) ++ take n b) (k .value) buffer
-      ∙ ap (λ (b : List ℕ). take (l .sent) (wordsOfAll First (l .taken)) ++ b) (take-at (sendWords (widths First) room sh q) (drop (length (sendWords (widths First) room sh q)) (replicate room 0)) m size ∙ x .0)
-      ∙ sym (take-add (l .sent) m (wordsOfAll First (l .taken)))
-    where
-      filled : (q : Queue) (sh : List ℕ) (n : ℕ) → inside (chipFor l q sh) ≡ true → sentBuffer (chipFor l q sh) (replicate n 0) ≡ sendWords (widths First) n sh q ++ drop (length (sendWords (widths First) n sh q)) (replicate n 0)
-      filled q sh n e =
-          ap (λ (b : Bool). cond b (sendBuffer (widths First) sh q (replicate n 0)) (replicate n 0)) e
-          ∙ ap (λ (w : ℕ). sendWords (widths First) w sh q ++ drop (length (sendWords (widths First) w sh q)) (replicate n 0)) (length-replicate n 0)
+      ap₂ (λ (n : ℕ) (b : List ℕ). take (l .sent) (wordsOfAll First (l .taken)) ++ take n b) (agrees-step (opFill room) l c a .value)
+      (ap (λ (d : Chip). sentBuffer d (replicate room 0)) (a .is)
+      ∙ ap (λ (b : Bool). cond b (sendBuffer (widths First) sh q (replicate room 0)) (replicate room 0)) (for-inside l q sh (a .good)))
+      ∙ fill-adds First (l .taken) (a .good .sixteen) (l .sent) sh q (a .good .holds) room
 
   pub stream-step : (op : Operation) (ws : List ℕ) → ws ≡ take (l .sent) (wordsOfAll First (l .taken)) → streamAfter op c ws ≡ take (entryOf op l .ledger .sent) (wordsOfAll First (entryOf op l .ledger .taken))
   unfolding streamAfter entryOf wordsOfAll written byRange vacant writtenLow
@@ -115,23 +90,9 @@ module _ (l : Ledger) (c : Chip) (a : Agrees l c) where
 
 -- n tries give the first n of the words that are left
 pub come-words : (n : ℕ) (l : Ledger) (c : Chip) → Agrees l c → comeWithin n c ≡ take n (drop (l .sent) (wordsOfAll First (l .taken)))
-unfolding comeWithin entryOf
+unfolding comeWithin
 come-words zero l c a = refl
-come-words (suc n) l c a = go (eqb (left l) 0) refl (k .number) (k .value) (come-words n (entryOf opSend l .ledger) (step opSend c .chip) (k .agrees))
-  where
-    k : Kept (entryOf opSend l) (step opSend c)
-    k = agrees-step opSend l c a
-
-    go : (b : Bool) → eqb (left l) 0 ≡ b → step opSend c .number ≡ sendEntry l b .number → step opSend c .value ≡ sendEntry l b .value → comeWithin n (step opSend c .chip) ≡ take n (drop (sendEntry l b .ledger .sent) (wordsOfAll First (sendEntry l b .ledger .taken))) → cond (eqb (step opSend c .number) 5) [] (step opSend c .value ∷ comeWithin n (step opSend c .chip)) ≡ take (suc n) (drop (l .sent) (wordsOfAll First (l .taken)))
-    go true e m v ih =
-        let none : drop (l .sent) (wordsOfAll First (l .taken)) ≡ [] =
-        drop-of-length-le (wordsOfAll First (l .taken)) {i = l .sent} (subst (λ (x : ℕ). x ≤ l .sent) (sym (words-total First (l .taken) (a .good .sixteen))) (omega (arith, eqb-true (left l) 0 e))) in
-        ap (λ (x : ℕ). cond (eqb x 5) [] (step opSend c .value ∷ comeWithin n (step opSend c .chip))) m
-        ∙ ap (take (suc n)) (sym none)
-    go false e m v ih =
-        let f : left l ≡ 0 → ⊥ = eqb-false (left l) 0 e in
-        let one : l .sent + min 1 (left l) ≡ suc (l .sent) = omega arith in
-        let here : l .sent < length (wordsOfAll First (l .taken)) = subst (λ (x : ℕ). l .sent < x) (sym (words-total First (l .taken) (a .good .sixteen))) (omega arith) in
-        ap (λ (x : ℕ). cond (eqb x 5) [] (step opSend c .value ∷ comeWithin n (step opSend c .chip))) m
-        ∙ ap₂ (λ (w : ℕ) (r : List ℕ). w ∷ r) v (ih ∙ ap (λ (x : ℕ). take n (drop x (wordsOfAll First (l .taken)))) one)
-        ∙ ap (take (suc n)) (sym (drop-cons (wordsOfAll First (l .taken)) (l .sent) 0 here))
+come-words (suc n) l c a =
+    send-comes First (l .taken) (a .good .sixteen) (l .sent) (step opSend c .number) (step opSend c .value) (send-number l c a) (send-value l c a) n _
+    (come-words n (entryOf opSend l .ledger) (step opSend c .chip) (agrees-step opSend l c a .agrees)
+    ∙ ap (λ (m : Ledger). take n (drop (m .sent) (wordsOfAll First (m .taken)))) (send-leaves l))

@@ -25,11 +25,12 @@ use Rattle.history.specs.Run.{chipOf, comeWithin, runFrom, sentFrom, sen
 use Rattle.history.specs.Stream.{Every, Unmarked, totalOf, wordsOfAll}
 use Rattle.history.proofs.Addresses.{range-trigger}
 use Rattle.history.proofs.Agrees.{Agrees, controlOf, for-inside}
+use Rattle.history.proofs.ControlLaws.{lowest-turned}
 use Rattle.history.proofs.CountLaws.{value-at, wrapped}
 use Rattle.history.proofs.HeldLaws.{words-left, words-total}
 use Rattle.history.proofs.HoldsLaws.{holds-left}
 use Rattle.history.proofs.Leaves.{all-leave}
-use Rattle.history.proofs.Steps.{agrees-step, lowest-turned, reset-good, reset-record}
+use Rattle.history.proofs.Steps.{agrees-step, reset-good, reset-record}
 use Rattle.history.proofs.StreamLaws.{come-words, stream-step}
 use Rattle.history.proofs.Walks.{Unlost, one-choice, one-unlost, reset-unlost, setting-said}
 

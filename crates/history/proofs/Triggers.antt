@@ -14,8 +14,7 @@ use Rattle.counters.specs.Bank.{bit, copied}
 use Rattle.queue.specs.Queue.{busy, full, heldSample, pushed}
 use Rattle.queue.specs.declared.queue.Held.{Held}
 use Rattle.queue.specs.declared.queue.Queue.{Queue}
-use Rattle.control.specs.Control.{headerOf, overran, waited}
-use Rattle.control.specs.Control.{withErrors as Control·withErrors}
+use Rattle.control.specs.Control.{headerOf, waited}
 use Rattle.control.specs.Fate.{fate, isOff, isFiltered, isLost, isTold, isTaken}
 use Rattle.control.specs.Fate.{Fate as Chip·Fate}
 use Rattle.control.specs.declared.control.Control.{Control}
@@ -24,16 +23,17 @@ use Rattle.control.proofs.HeaderLaws.{header-kind}
 use Rattle.chip.specs.Chip.{blocked, fateOf, lacksRoom, lineOf, replied, sampleNow, trigger, triggerBy, withControl}
 use Rattle.chip.specs.declared.chip.Chip.{Chip}
 use Rattle.counters.specs.declared.bank.Bank.{Bank}
-use Rattle.history.specs.Ledger.{Fate, Ledger, afterFate, byFate, fateIn, held, lineIn, lostOne, sampleIn, tells, triggered, unmarked, waitedOne, wasFiltered, wasLost, wasOff, wasTaken, wasTold, withErrors}
+use Rattle.history.specs.Ledger.{Fate, Ledger, afterFate, byFate, fateIn, held, lineIn, sampleIn, tells, triggered, unmarked, waitedOne, wasFiltered, wasLost, wasOff, wasTaken, wasTold, withErrors}
 use Rattle.history.specs.Stream.{anyHeld, isBlocked, isFull}
 use Rattle.history.proofs.Addresses.{line-is, line-same}
 use Rattle.history.proofs.Agrees.{Good, Kept, chipFor, controlOf, switchesOf}
-use Rattle.history.proofs.CountLaws.{valueOf, wrapped, wrapped-grown}
+use Rattle.history.proofs.ControlLaws.{lost-control, waited-control}
+use Rattle.history.proofs.CountLaws.{valueOf}
 use Rattle.history.proofs.HeldLaws.{HasSixteen, every-more}
 use Rattle.history.proofs.HoldsLaws.{Holds, holds-busy, holds-copied, holds-full, holds-pushed}
 
 -- the chip's name for a fate
-abbrev chipFate : Fate → Chip·Fate
+abbrev pub chipFate : Fate → Chip·Fate
 chipFate wasOff = isOff
 chipFate wasFiltered = isFiltered
 chipFate wasLost = isLost
@@ -41,7 +41,7 @@ chipFate wasTold = isTold
 chipFate wasTaken = isTaken
 
 -- what is shown of a taken trigger's room, and of nothing else
-abbrev Roomy : Fate → Bool → Type 0
+abbrev pub Roomy : Fate → Bool → Type 0
 Roomy wasOff b = Unit {0}
 Roomy wasFiltered b = Unit {0}
 Roomy wasLost b = Unit {0}
@@ -52,7 +52,7 @@ Roomy wasTaken b = b ≡ false
 abbrev pub fateBy : Bool → Bool → Bool → Bool → Fate
 fateBy s p r w = cond s (cond p (cond r (cond w wasTold wasLost) wasTaken) wasFiltered) wasOff
 
-fate-by : (s p r w : Bool) → (fate s p r w ≡ chipFate (fateBy s p r w)) × Roomy (fateBy s p r w) r
+pub fate-by : (s p r w : Bool) → (fate s p r w ≡ chipFate (fateBy s p r w)) × Roomy (fateBy s p r w) r
 fate-by true true true true = (refl, tt)
 fate-by true true true false = (refl, tt)
 fate-by true true false w = (refl, refl)
@@ -146,7 +146,7 @@ module _ (l : Ledger) (q : Queue) (sh : List ℕ) (g : Good l q sh) where
             record {
               queue = q;
               shadows = sh;
-              is = ap (λ (n : ℕ). withControl (Control·withErrors n (wrapped (l .errors .lost)) (controlOf l)) (chipFor l q sh)) (sym (wrapped-grown (l .errors .waits) 1));
+              is = ap (λ (k : Control). withControl k (chipFor l q sh)) (waited-control (l .settings) (l .errors));
               good = record { holds = g .holds; sixteen = g .sixteen; counters = g .counters };
             };
         number = refl;
@@ -159,22 +159,8 @@ module _ (l : Ledger) (q : Queue) (sh : List ℕ) (g : Good l q sh) where
   by-fate wasOff r line bits h e = record { agrees = record { queue = q; shadows = sh; is = refl; good = g }; number = refl; value = refl }
   by-fate wasFiltered r line bits h e = record { agrees = record { queue = q; shadows = sh; is = refl; good = g }; number = refl; value = refl }
   by-fate wasLost r line bits h e =
-      let x = l .errors in
-      let control : overran (full q) (blocked r q) (controlOf l) ≡ controlOf (withErrors (lostOne (isFull (held l)) (isBlocked r (held l)) x) l) =
-      λ i.
       record {
-        wait = wrapped (x .waits);
-        overrun = sym (wrapped-grown (x .lost) 1) i;
-        filter = l .settings .filter;
-        sampling = l .settings .sampling;
-        writewait = l .settings .writewait;
-        readwait = l .settings .readwait;
-        flagfull = x .flagfull || full-same i;
-        flagbusy = x .flagbusy || blocked-same r i;
-        lost = true;
-      } in
-      record {
-        agrees = record { queue = q; shadows = sh; is = ap (λ (k : Control). withControl k (chipFor l q sh)) control; good = record { holds = g .holds; sixteen = g .sixteen; counters = g .counters } };
+        agrees = record { queue = q; shadows = sh; is = ap (λ (k : Control). withControl k (chipFor l q sh)) (lost-control (l .settings) (l .errors) _ _ _ _ full-same (blocked-same r)); good = record { holds = g .holds; sixteen = g .sixteen; counters = g .counters } };
         number = refl;
         value = refl;
       }

@@ -1,7 +1,7 @@
 -- Wish 8: a trigger that is told to wait is taken after 80 words, or 192, or once nothing is left to send; so single sends alone end the wait. By what
 -- each operation in between leaves of the ledger, and the law on room. Assumes of the list in between what `Between` says, and nothing of the one before.
 use Prim.Native.Nat.{ℕ, zero, suc, _+_, _-_, _%_, _≤_, _<_, min}
-use native.Mathlib.Nat.{add-zero, le-of-suc-le-suc, not-suc-le-zero, suc-ne-zero}
+use native.Mathlib.Nat.{add-zero, le-trans, suc-ne-zero}
 use native.Mathlib.Omega.{arith}
 use mathlib.Core.Path.{_≡_, refl, sym, ap, ap₂, _∙_, subst}
 use mathlib.Core.Bool.{Bool, true, false, cond, not, _&&_, _||_, false≢true}
@@ -9,42 +9,29 @@ use mathlib.Core.List.{List, [], _∷_, _++_}
 use lib.Dec.{eqb, leb, ltb}
 use lib.ListN.{length, drop, getD, replicate}
 use lib.Seq.{length-take-le}
-use borrow.Author.Tests.{eqb-true, eqb-false, eq-eqb, ne-eqb, le-leb, lt-leb, leb-true, leb-false, ltb-false, ltb-true}
+use borrow.Author.Tests.{eqb-true, eqb-false, eq-eqb, ne-eqb, le-leb, lt-leb, ltb-false, ltb-true}
 use Rattle.samples.specs.declared.edition.Edition.the-variants.{First}
-use Rattle.samples.specs.declared.sample.Sample.{Sample}
 use Rattle.chip.specs.Operation.{Operation, opReset, opWrite, opRead, opTicks, opNodes, opEvents, opSend, opFill, step}
 use Rattle.chip.specs.Place.{placeOf, registerOf}
 use Rattle.chip.specs.declared.chip.Chip.{Chip}
 use Rattle.chip.proofs.AddressLaws.{place-beyond, same, same-eq, upTo-at}
-use Rattle.chip.proofs.ChipLaws.{not-true}
 use Rattle.chip.proofs.Refusals.{when-waiting}
-use Rattle.history.specs.Ledger.{Fate, Ledger, Settings, afterFate, afterOne, entryOf, fateIn, fateNumber, isSet, ledgerFrom, ledgerOf, left, lineIn, resetAt, sentMore, wasTaken, wasTold, withStream}
+use Rattle.history.specs.Ledger.{Fate, Ledger, afterFate, afterOne, entryOf, fateIn, fateNumber, isSet, ledgerFrom, ledgerOf, left, lineIn, resetAt, sentMore, wasTaken, wasTold, withStream}
 use Rattle.history.specs.Run.{chipOf, runFrom, sentOf}
-use Rattle.history.specs.Stream.{anyHeld, heldOf, isBlocked, isFull, totalOf, wordsOfAll}
-use Rattle.history.specs.Waiting.{Between, EndsBySends, Fits, barred, enough, leavesAlone, mattersTo, mayCome, sentBy, waitedMore, within, wordsIn}
+use Rattle.history.specs.Stream.{totalOf, wordsOfAll}
+use Rattle.history.specs.Waiting.{Between, EndsBySends, Fits, barred, enough, leavesAlone, mattersTo, mayCome, sentBy, waitedMore, wordsIn}
 use Rattle.history.proofs.Agrees.{Agrees}
-use Rattle.history.proofs.HeldLaws.{held-none, words-total}
+use Rattle.history.proofs.HeldLaws.{words-total}
 use Rattle.history.proofs.Leaves.{other-leaves, read-leaves}
-use Rattle.history.proofs.WaitLaws.{lacks-said, stream-room}
+use Rattle.history.proofs.RoomLaws.{Armed, FirstNot, empty-room, first-not, lacks-left, lacksIn, needed, not-barred, quiet-write, sends-room, told-why, words-room}
 use Rattle.history.proofs.Fits.{always-fits, lacks}
 use Rattle.history.proofs.Steps.{agrees-step, send-leaves, send-number}
 use Rattle.history.proofs.Theorems.{agrees, fate-said, run-agrees, sent-words}
-use Rattle.history.proofs.Triggers.{fateBy, or-left, or-right, or-true}
+use Rattle.history.proofs.Triggers.{fateBy, or-true}
 
 -- ---- a trigger that waits
 
--- it is told to wait with sampling on, its level enabled and write wait set, where it lacks room
-told-why : (s p r w : Bool) → fateNumber (fateBy s p r w) ≡ 10 → (s ≡ true) × ((p ≡ true) × ((w ≡ true) × (r ≡ true)))
-told-why true true true true e = (refl, (refl, (refl, refl)))
-told-why true true true false e = absurd (omega arith)
-told-why true true false w e = absurd (omega arith)
-told-why true false r w e = absurd (omega arith)
-told-why false p r w e = absurd (omega arith)
-
--- the settings under which a trigger of a level is told to wait or taken
-abbrev Armed : ℕ → Settings → Type 0
-Armed level s = (s .sampling ≡ true) × ((isSet (s .filter) level ≡ true) × (s .writewait ≡ true))
-
+-- with the settings for it, it is told to wait or taken, by room
 armed-fate : (resource : Bool) (level : ℕ) (l : Ledger) → Armed level (l .settings) → fateIn resource level l ≡ cond (lacks resource l) wasTold wasTaken
 armed-fate resource level l a = λ i. fateBy (a .0 i) (a .1 .0 i) (lacks resource l) (a .1 .1 i)
 
@@ -64,21 +51,6 @@ send-counts l c a = ap (λ (n : ℕ). cond (eqb n 0) 1 0) (send-number l c a) �
     go : (b : Bool) → eqb (left l) 0 ≡ b → cond (eqb (cond b 5 0) 0) 1 0 ≡ min 1 (left l)
     go true e = omega (arith, eqb-true (left l) 0 e)
     go false e = let f : left l ≡ 0 → ⊥ = eqb-false (left l) 0 e in omega arith
-
--- what a write that may come is not, while the trigger at an address waits
-quiet-write : (address a bits lines : ℕ) → 96 ≤ address → mayCome address (opWrite a bits lines) ≡ true → (eqb a 0 ≡ false) × ((eqb a 1 ≡ false) × ((eqb a 4 ≡ false) × (ltb 127 a ≡ false → leb 96 a ≡ true → a ≡ address)))
-unfolding afterOne
-quiet-write address a bits lines from may = go (eqb a address) refl may
-  where
-    go : (b : Bool) → eqb a address ≡ b → (b || not (barred a)) ≡ true → (eqb a 0 ≡ false) × ((eqb a 1 ≡ false) × ((eqb a 4 ≡ false) × (ltb 127 a ≡ false → leb 96 a ≡ true → a ≡ address)))
-    go true e p =
-        let is : a ≡ address = eqb-true a address e in
-        (ne-eqb a 0 (λ z. omega arith), (ne-eqb a 1 (λ z. omega arith), (ne-eqb a 4 (λ z. omega arith), λ x y. is)))
-    go false e p =
-        let none : barred a ≡ false = not-true (barred a) p in
-        let others = or-right (eqb a 0) _ none in
-        let last = or-right (eqb a 1) _ others in
-        (or-left (eqb a 0) _ none, (or-left (eqb a 1) _ others, (or-left (eqb a 4) _ last, λ x y. absurd (false≢true (sym (or-right (eqb a 4) _ last) ∙ (λ i. y i && le-leb a 127 (ltb-false 127 a x) i))))))
 
 -- the trigger at an address, on a ledger and a chip that agree, with the settings under which it waits or is taken
 module _ (address : ℕ) (from : 96 ≤ address) (upto : address ≤ 127) (l : Ledger) (c : Chip) (agree : Agrees l c) (armed : Armed (address % 16) (l .settings)) where
@@ -101,7 +73,7 @@ module _ (address : ℕ) (from : 96 ≤ address) (upto : address ≤ 127) (l : L
   unfolding afterOne entryOf sentBy
   one-quiet (opReset hundredth) may un = absurd (false≢true may)
   one-quiet (opWrite a bits lines) may un =
-      let not-these = quiet-write address a bits lines from may in
+      let not-these = quiet-write address a from may in
       other-leaves (λ m b. Quiet l m 0) l false none bits none none (λ g. none) (λ xs. none) a lines (not-these .0) (not-these .1 .0)
       (λ e. absurd (false≢true (sym (not-these .1 .1 .0) ∙ e)))
       (λ x y one.
@@ -133,53 +105,14 @@ all-quiet address from upto (op ∷ ops) l c a armed h =
 
 -- ---- room on the ledger
 
-module _ (resource : Bool) where
-  -- after so many words
-  words-room : (l m : Ledger) (k : ℕ) → Fits First 8 1 (l .taken) (l .sent) → Quiet l m k → enough resource ≤ k → lacks resource m ≡ false
-  words-room l m k h since few =
-      ap (λ (hs : List Sample). isFull hs || isBlocked resource hs) (ap₂ (heldOf First) (since .1 .0) (since .1 .1))
-      ∙ sym (lacks-said resource (heldOf First (l .taken) (l .sent + k)))
-      ∙ stream-room First 8 1 (omega arith) (omega arith) (l .taken) (l .sent) k h resource (go resource few)
-    where
-      -- the law's words
-      go : (r : Bool) → enough r ≤ k → within 8 1 16 80 r ≤ k
-      go true more = omega arith
-      go false more = omega arith
+-- "80 words", "192 words": the law's
+enough-needed : (resource : Bool) → needed First resource ≤ enough resource
+enough-needed true = omega arith
+enough-needed false = omega arith
 
-  -- with the same samples and words there is as much
-  same-room : (l m : Ledger) → Quiet l m 0 → lacks resource m ≡ lacks resource l
-  same-room l m since = ap (λ (hs : List Sample). isFull hs || isBlocked resource hs) (ap₂ (heldOf First) (since .1 .0) (since .1 .1 ∙ add-zero (l .sent)))
-
-  -- and where nothing is left
-  empty-room : (l : Ledger) → left l ≡ 0 → lacks resource l ≡ false
-  unfolding anyHeld
-  empty-room l e =
-      ap (λ (hs : List Sample). isFull hs || isBlocked resource hs) (held-none First (l .taken) (l .sent) (omega arith))
-      ∙ go resource
-    where
-      go : (b : Bool) → (b && false) ≡ false
-      go true = refl
-      go false = refl
-
-  -- so while a trigger waits there is a word to send
-  lacks-left : (l : Ledger) → lacks resource l ≡ true → eqb (left l) 0 ≡ false
-  lacks-left l e = go (eqb (left l) 0) refl
-    where
-      go : (b : Bool) → eqb (left l) 0 ≡ b → b ≡ false
-      go true t = absurd (false≢true (sym (empty-room l (eqb-true (left l) 0 t)) ∙ e))
-      go false t = refl
-
-  -- so many single sends, or as many as there are words, make room
-  sends-room : (l : Ledger) → Fits First 8 1 (l .taken) (l .sent) → lacks resource (sentMore (enough resource) l) ≡ false
-  sends-room l h = go (leb (enough resource) (left l)) refl
-    where
-      go : (b : Bool) → leb (enough resource) (left l) ≡ b → lacks resource (sentMore (enough resource) l) ≡ false
-      go true e =
-          let more : enough resource ≤ left l = leb-true (enough resource) (left l) e in
-          words-room l (sentMore (enough resource) l) (min (enough resource) (left l)) h (refl, (refl, refl)) (omega arith)
-      go false e =
-          let fewer : left l < enough resource = leb-false (enough resource) (left l) e in
-          empty-room (sentMore (enough resource) l) (omega arith)
+-- with the same samples and so many words more
+later-room : (resource : Bool) (l m : Ledger) (k : ℕ) → Quiet l m k → lacks resource m ≡ lacksIn First resource (l .taken) (l .sent + k)
+later-room resource l m k since = ap₂ (lacksIn First resource) (since .1 .0) (since .1 .1)
 
 -- ---- lists of operations
 
@@ -206,25 +139,6 @@ sends-leave (suc j) l =
 
 sends-agree : (j : ℕ) (l : Ledger) (c : Chip) → Agrees l c → Agrees (sentMore j l) (runFrom c (replicate j opSend))
 sends-agree j l c a = subst (λ (m : Ledger). Agrees m (runFrom c (replicate j opSend))) (sends-leave j l) (run-agrees (replicate j opSend) l c a)
-
--- the first number at which a test fails, if it fails at n
-record FirstNot (f : ℕ → Bool) (n : ℕ) : Type 0 where
-  at : ℕ
-  upto : at ≤ n
-  before : (j : ℕ) → j < at → f j ≡ true
-  here : f at ≡ false
-
-first-not : (n : ℕ) (f : ℕ → Bool) → f n ≡ false → FirstNot f n
-first-not zero f e = record { at = 0; upto = omega arith; before = λ j h. absurd (not-suc-le-zero h); here = e }
-first-not (suc n) f e = go (f 0) refl (first-not n (λ j. f (suc j)) e)
-  where
-    go : (b : Bool) → f 0 ≡ b → FirstNot (λ j. f (suc j)) n → FirstNot f (suc n)
-    go true t x = record { at = suc (x .at); upto = omega (arith, x .upto); before = below; here = x .here }
-      where
-        below : (j : ℕ) → j < suc (x .at) → f j ≡ true
-        below zero h = t
-        below (suc j) h = x .before j (le-of-suc-le-suc h)
-    go false t x = record { at = 0; upto = omega arith; before = λ j h. absurd (not-suc-le-zero h); here = t }
 
 -- ---- what may come in between, and what asking again does
 
@@ -254,13 +168,7 @@ may-said address (opFill room) = refl
 pub may-write : (address a bits lines : ℕ) → (a ≡ 0 → ⊥) → (a ≡ 1 → ⊥) → (a ≡ 4 → ⊥) → (96 ≤ a → a ≤ 127 → ⊥) → mayCome address (opWrite a bits lines) ≡ true
 unfolding afterOne
 may-write address a bits lines n0 n1 n4 outside =
-    ap (λ (b : Bool). eqb a address || not b) (λ i. ne-eqb a 0 n0 i || (ne-eqb a 1 n1 i || (ne-eqb a 4 n4 i || beyond (leb 96 a) refl (leb a 127) refl i)))
-    ∙ or-true (eqb a address)
-  where
-    beyond : (x : Bool) → leb 96 a ≡ x → (y : Bool) → leb a 127 ≡ y → (x && y) ≡ false
-    beyond true e true d = absurd (outside (leb-true 96 a e) (leb-true a 127 d))
-    beyond true e false d = refl
-    beyond false e y d = refl
+    ap (λ (b : Bool). eqb a address || not b) (not-barred a n0 n1 n4 outside) ∙ or-true (eqb a address)
 
 pub may-others : (address : ℕ) → ((a : ℕ) → mayCome address (opRead a) ≡ true) × (((k : ℕ) → mayCome address (opTicks k) ≡ true) × (((k : ℕ) → mayCome address (opNodes k) ≡ true) × (((mask : ℕ) → mayCome address (opEvents mask) ≡ true) × ((mayCome address opSend ≡ true) × ((room : ℕ) → mayCome address (opFill room) ≡ true)))))
 unfolding afterOne
@@ -366,7 +274,10 @@ module _ (before : List Operation) (address : ℕ) (from : 96 ≤ address) (upto
   has-room room bits′ lines′ one′ = by-room later now later-agrees armed bits′ lines′ one′ ∙ ap answer room
 
   words-end : enough resource ≤ wordsIn asked between → (bits lines : ℕ) → lineIn lines < 8 → step (opWrite address bits lines) now .number ≡ 0
-  words-end few = has-room (words-room resource (ledgerOf before) later (wordsIn asked between) (always-fits before) since few)
+  words-end few =
+      has-room
+      (later-room resource (ledgerOf before) later (wordsIn asked between) since
+      ∙ words-room First resource (ledgerOf before .taken) (ledgerOf before .sent) (wordsIn asked between) (always-fits before) (le-trans (enough-needed resource) few))
 
   -- "A Trace trigger is taken at the latest after 80 words have been sent": asked by any one line, with any data
   pub trace-ends : address ≤ 111 → 80 ≤ wordsIn asked between → (bits lines : ℕ) → lineIn lines < 8 → step (opWrite address bits lines) now .number ≡ 0
@@ -378,7 +289,7 @@ module _ (before : List Operation) (address : ℕ) (from : 96 ≤ address) (upto
 
   -- "or once nothing is left to send", of either
   pub empty-ends : step opSend now .number ≡ 5 → (bits lines : ℕ) → lineIn lines < 8 → step (opWrite address bits lines) now .number ≡ 0
-  empty-ends e = has-room (empty-room resource later (five (eqb (left later) 0) refl (sym (send-number later now later-agrees) ∙ e)))
+  empty-ends e = has-room (empty-room First resource (later .taken) (later .sent) (five (eqb (left later) 0) refl (sym (send-number later now later-agrees) ∙ e)))
     where
       five : (b : Bool) → eqb (left later) 0 ≡ b → _≡_ {A = ℕ} (cond b 5 0) 5 → left later ≡ 0
       five true t n = eqb-true (left later) 0 t
@@ -409,18 +320,20 @@ module _ (before : List Operation) (address : ℕ) (from : 96 ≤ address) (upto
       let x =
       one-quiet address from upto later now later-agrees armed again (may-ask address bits′ lines′)
       (λ b l is. subst (λ (o : Operation). eqb (step o now .number) 0 ≡ false) is (ap (λ (n : ℕ). eqb n 0) e)) in
-      (send-done later now later-agrees full, send-done (entryOf again later .ledger) (step again now .chip) (agrees-step again later now later-agrees .agrees) (same-room resource later (entryOf again later .ledger) x ∙ full))
+      (send-done later now later-agrees full, send-done (entryOf again later .ledger) (step again now .chip) (agrees-step again later now later-agrees .agrees) (later-room resource later (entryOf again later .ledger) 0 x ∙ ap (lacksIn First resource (later .taken)) (add-zero (later .sent)) ∙ full))
     where
       ten : (b : Bool) → answer b ≡ 10 → b ≡ true
       ten true n = refl
       ten false n = absurd (omega arith)
 
       send-done : (l : Ledger) (c : Chip) → Agrees l c → lacks resource l ≡ true → step opSend c .number ≡ 0
-      send-done l c a t = send-number l c a ∙ ap (λ (b : Bool). cond b 5 0) (lacks-left resource l t)
+      send-done l c a t = send-number l c a ∙ ap (λ (b : Bool). cond b 5 0) (lacks-left First resource (l .taken) (l .sent) t)
 
   -- how many single sends make room
   until : FirstNot (λ j. lacks resource (sentMore j later)) (enough resource)
-  until = first-not (enough resource) _ (sends-room resource later (subst (λ (l : Ledger). Fits First 8 1 (l .taken) (l .sent)) later-is (always-fits (before ++ (trigger ∷ between)))))
+  until =
+      first-not (enough resource) _
+      (sends-room First resource (later .taken) (later .sent) (enough resource) (enough-needed resource) (subst (λ (l : Ledger). Fits First 8 1 (l .taken) (l .sent)) later-is (always-fits (before ++ (trigger ∷ between)))))
 
   -- from any time on single sends alone end the wait
   pub sends-end : (bits lines : ℕ) → lineIn lines < 8 → EndsBySends (opWrite address bits lines) now
@@ -429,7 +342,7 @@ module _ (before : List Operation) (address : ℕ) (from : 96 ≤ address) (upto
       record {
         sends = until .at;
         waits = λ j h. asking j ∙ ap answer (until .before j h);
-        sending = λ j h. send-number (sentMore j later) _ (after j) ∙ ap (λ (b : Bool). cond b 5 0) (lacks-left resource (sentMore j later) (until .before j h));
+        sending = λ j h. send-number (sentMore j later) _ (after j) ∙ ap (λ (b : Bool). cond b 5 0) (lacks-left First resource (sentMore j later .taken) (sentMore j later .sent) (until .before j h));
         taken = asking (until .at) ∙ ap answer (until .here);
       }
     where

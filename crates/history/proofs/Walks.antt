@@ -12,9 +12,9 @@ use Rattle.chip.specs.Operation.{Operation, opReset, opWrite, opRead, opTicks, 
 use Rattle.chip.proofs.ChipLaws.{either}
 use Rattle.history.specs.Ledger.{Fate, Ledger, NoDiscard, Settings, afterAll, afterFate, afterOne, choiceAfter, configured, discardAfter, discardOf, entryOf, fateIn, filtering, held, isSet, ledgerOf, lostCleared, resetAt, sampleIn, settingAfter, settingOf, turned, wasLost, wasTold, withErrors, withSettings, written}
 use Rattle.history.specs.Stream.{Every, Unmarked, isBlocked, isFull}
+use Rattle.history.proofs.ControlLaws.{pair-turned}
 use Rattle.history.proofs.HeldLaws.{every-more}
 use Rattle.history.proofs.Leaves.{all-leave, fate-leaves, one-leaves, write-leaves}
-use Rattle.history.proofs.Steps.{pair-turned}
 use Rattle.history.proofs.Triggers.{or-left, or-right}
 
 -- ---- what goes by the settings and the choice alone
@@ -73,15 +73,23 @@ Unlost l = NoneLost (l .settings .writewait) (l .errors .lost) (l .errors .flagf
 pub reset-unlost : (clock : ℕ) (hundredth : Bool) → Unlost (resetAt clock hundredth)
 reset-unlost clock hundredth = record { waits = refl; uncounted = refl; unflagged = (refl, refl); unmarked = refl; samples = tt }
 
-module _ (l : Ledger) (u : Unlost l) where
-  -- a sample that is taken has no lost mark
-  sample-unmarked : (resource : Bool) (line bits : ℕ) → line < 8 → Unmarked (sampleIn resource line bits l)
-  sample-unmarked resource line bits h = subst (λ (b : Bool). line + cond resource 8 0 + cond b 16 0 < 16) (sym (u .unmarked)) (go resource)
-    where
-      go : (r : Bool) → line + cond r 8 0 + 0 < 16
-      go true = omega arith
-      go false = omega arith
+-- the header of a sample with no lost mark
+pub header-unmarked : (line : ℕ) (resource mark : Bool) → line < 8 → mark ≡ false → line + cond resource 8 0 + cond mark 16 0 < 16
+header-unmarked line resource mark h e = subst (λ (b : Bool). line + cond resource 8 0 + cond b 16 0 < 16) (sym e) (go resource)
+  where
+    go : (r : Bool) → line + cond r 8 0 + 0 < 16
+    go true = omega arith
+    go false = omega arith
 
+-- a CSR write without bit 3 leaves write wait set
+pub csr-keeps-wait : (bits : ℕ) (wait : Bool) → wait ≡ true → isSet bits 3 ≡ false → turned (bits / 4 % 4) wait ≡ true
+csr-keeps-wait bits wait w e =
+    sym (pair-turned 2 bits wait)
+    ∙ ap (λ (b : Bool). cond b false (cond (isSet bits 2) true wait)) e
+    ∙ ap (cond (isSet bits 2) true) w
+    ∙ either (λ b. b ≡ true) (isSet bits 2) true true refl refl
+
+module _ (l : Ledger) (u : Unlost l) where
   -- a trigger is not lost: with no room it is told to wait
   fate-unlost : (resource : Bool) (level line bits : ℕ) → line < 8 → Unlost (afterFate (fateIn resource level l) resource line bits l)
   unfolding afterFate
@@ -95,21 +103,13 @@ module _ (l : Ledger) (u : Unlost l) where
         uncounted = u .uncounted;
         unflagged = u .unflagged;
         unmarked = refl;
-        samples = every-more Unmarked (l .taken) (sampleIn resource line bits l) (u .samples) (sample-unmarked resource line bits h);
+        samples = every-more Unmarked (l .taken) (sampleIn resource line bits l) (u .samples) (header-unmarked line resource (l .errors .mark) h (u .unmarked));
       }))
       u)
       u
     where
       P : Fate → Type 0
       P f = Unlost (afterFate f resource line bits l)
-
-  -- a CSR write without bit 3 leaves write wait set
-  csr-keeps-wait : (bits : ℕ) → isSet bits 3 ≡ false → turned (bits / 4 % 4) (l .settings .writewait) ≡ true
-  csr-keeps-wait bits e =
-      sym (pair-turned 2 bits (l .settings .writewait))
-      ∙ ap (λ (b : Bool). cond b false (cond (isSet bits 2) true (l .settings .writewait))) e
-      ∙ ap (cond (isSet bits 2) true) (u .waits)
-      ∙ either (λ b. b ≡ true) (isSet bits 2) true true refl refl
 
 pub one-unlost : (op : Operation) (l : Ledger) (b : Bool) → (b ≡ false → Unlost l) → discardAfter op b ≡ false → Unlost (entryOf op l .ledger)
 one-unlost op l b h =
@@ -135,7 +135,7 @@ one-unlost op l b h =
     set : (bits : ℕ) → P (withSettings (configured bits (l .settings)) l) (b || isSet bits 3)
     set bits none =
         let u : Unlost l = h (or-left b (isSet bits 3) none) in
-        record { waits = csr-keeps-wait l u bits (or-right b (isSet bits 3) none); uncounted = u .uncounted; unflagged = u .unflagged; unmarked = u .unmarked; samples = u .samples }
+        record { waits = csr-keeps-wait bits (l .settings .writewait) (u .waits) (or-right b (isSet bits 3) none); uncounted = u .uncounted; unflagged = u .unflagged; unmarked = u .unmarked; samples = u .samples }
 
 -- ---- who asked for discard
 

@@ -100,8 +100,8 @@ withTicks k l =
 
 -- ---- counters
 
--- each of some counters becomes f of its number and itself, numbered from i
-unfoldable pub eachFrom : ℕ → (ℕ → Counter → Counter) → List Counter → List Counter
+-- each of some counters, or of other things, becomes f of its number and itself, numbered from i
+unfoldable pub eachFrom : {A : Type 0} → ℕ → (ℕ → A → A) → List A → List A
 eachFrom i f [] = []
 eachFrom i f (k ∷ ks) = f i k ∷ eachFrom (suc i) f ks
 
