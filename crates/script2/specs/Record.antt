@@ -1,5 +1,6 @@
 -- The records of sixteen bytes by which the MultiKron II is tested, and what they do: document 01's "Bench program", with the lines that are
--- high and a buffer send beside it. The quotes without a document's name are from the program's own task.
+-- high and a buffer send beside it. The quotes without a document's name are from docs/DECISIONS.md,
+-- "Test records of the II".
 use Prim.Native.Nat.{ℕ}
 use mathlib.Core.Bool.{Bool, cond, _&&_}
 use mathlib.Core.List.{List, []}
