@@ -8,8 +8,8 @@ on the files of SEEDS seeds from FIRST on, COUNT records each, and says how many
 records were the same. Without numbers: seeds 0 to 63, 32,768 records each,
 which is what the gate compares; other seeds are other files. A difference ends
 it with status 1, the seed, the line and both answers. It needs rustc for the
-twin; the bench is built by run-bench if need be, chip2_run by `rt check
-chip2_run`.
+twin; the bench is built by run-bench if need be, chip2_run by
+compare/run-chip2.
 """
 
 import concurrent.futures
@@ -21,7 +21,7 @@ import tempfile
 ROOT = os.path.dirname(os.path.dirname(os.path.abspath(__file__)))
 # For each edition: the program's name, how it is run, its twin, the generator of its records and their size.
 FIRST = ("bench", ["./run-bench"], "twin/main.rs", "compare/generate.py", 12)
-SECOND = ("chip2_run", ["target/bin/chip2_run"], "twin2/main.rs", "compare/generate2.py", 16)
+SECOND = ("chip2_run", ["compare/run-chip2"], "twin2/main.rs", "compare/generate2.py", 16)
 
 
 def output(command, data=b""):

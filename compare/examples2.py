@@ -49,7 +49,7 @@ def fits(line, wanted):
 
 
 def main():
-    program = sys.argv[1:] or [os.path.join(ROOT, "target", "bin", "chip2_run")]
+    program = sys.argv[1:] or [os.path.join(ROOT, "compare", "run-chip2")]
     checked = 0
     for path in sorted(glob.glob(os.path.join(ROOT, "examples", "second", "*.txt"))):
         with open(path, encoding="utf-8") as file:

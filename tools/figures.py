@@ -81,7 +81,7 @@ def main():
     verdict = re.findall(r'^\d+ passed, \d+ failed', log, re.M)
     axioms = axioms_in(log)
     kit = re.search(r'^gate: kit (.*)', log, re.M)
-    compared = re.findall(r'^compare: bench and twin (agree on \d+ records.*)$', log, re.M)
+    compared = re.findall(r'^compare: (\w+ and twin agree on \d+ records.*)$', log, re.M)
 
     rows, total = [], [0] * 8
     for name in crates():
@@ -115,7 +115,7 @@ def main():
     if edit_times:
         print(f'Checks of the must-fail edits: {len(edit_times)}, together {sum(edit_times)} s.\n')
     for words in compared:
-        print(f'Bench and twin {words}.\n')
+        print(f'{words[0].upper()}{words[1:]}.\n')
     real, user, system = (clock(log, word) for word in ('real', 'user', 'sys'))
     if real is not None:
         print(f'Whole gate, by the clock: {real:.0f} s.' + (f' Of processors: {user + system:.0f} s.' if user and system else '') + '\n')
