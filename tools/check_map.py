@@ -9,7 +9,8 @@ Of both pages:
   the names stand in that file.
 
 Of STATEMENTS:
-- It has at most 5,000 words, the rows of document 02 apart.
+- It has at most 5,100 words, the rows of document 02 apart (5,000 before the
+  second chip).
 - The lines of definitions that it gives for each folder of specs are right.
 - Every must-fail edit stands in one row of the table of edits, with something
   that refuses it; if it changes code alone, with the function that it changes.
@@ -39,7 +40,7 @@ from idle import VERSIONS
 ROOT = os.path.dirname(os.path.dirname(os.path.abspath(__file__)))
 PAGE = "docs/STATEMENTS.md"
 PROGRAMS = "docs/WRONG-PROGRAMS.md"
-MOST_WORDS = 5000
+MOST_WORDS = 5100
 EDITS = "## Edits that must be refused"
 UNTRIED = "No wrong program was tried"
 
