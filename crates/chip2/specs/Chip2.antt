@@ -1,7 +1,7 @@
 -- Document 01, "The chip's operations", for the MultiKron II: document 001 and Wish 9 of document 02 beside it. The record, and what each
 -- operation answers and leaves. Each part below names its paragraph.
 use Prim.Native.Nat.{ℕ, _+_, _-_, _*_, _/_, _%_, _^_}
-use mathlib.Core.Bool.{Bool, true, false, cond, not, _&&_}
+use mathlib.Core.Bool.{Bool, false, cond, not, _&&_}
 use mathlib.Core.List.{List}
 use lib.Dec.{ltb}
 use lib.ListN.{getD, set, replicate}

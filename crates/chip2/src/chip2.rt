@@ -29,7 +29,7 @@ ghost use Rattle.chip.specs.Chip.{blocked, noneHeld};
 ghost use Rattle.chip2.specs.Place.{resets};
 ghost use Rattle.chip2.specs.Told.{told};
 ghost use Rattle.chip2.specs.Table.{sendBy};
-ghost use Rattle.chip2.specs.Chip2.{afterNodes, afterTicks, configuredAll, dataOf, done, enabledAll, externalEvents, fateOf, fresh, given, hardReset, inside, nodeTicks, read, readAt, readCounter, replied, sampleNow, send, sendInto, sentBuffer, softReset, statusOf, takeSample, timestampTicks, trigger, triggerBy, withBank, withControl, withFields, withHigh, withSources, withStamp, write, writeAt};
+ghost use Rattle.chip2.specs.Chip2.{afterNodes, afterTicks, configuredAll, dataOf, done, enabledAll, externalEvents, fateOf, fresh, given, hardReset, inside, nodeTicks, read, readAt, readCounter, replied, sampleNow, send, sendInto, sentBuffer, statusOf, takeSample, timestampTicks, trigger, triggerBy, withBank, withControl, withFields, withHigh, withSources, withStamp, write, writeAt};
 
 const TWO_32: u64 = 1 << 32;
 

@@ -1,5 +1,5 @@
 -- The CSR as it is read has ten bits: each of its seven bits adds at most its own number. Assumes nothing.
-use Prim.Native.Nat.{ℕ, _+_, _*_, _≤_, _<_}
+use Prim.Native.Nat.{_≤_, _<_}
 use native.Mathlib.Omega.{arith}
 use mathlib.Core.Bool.{Bool, true, false}
 use Rattle.control.specs.Control.{csrOf, one}

@@ -1,13 +1,13 @@
 -- A pair counts as one number modulo 2^64, by the even counter's own events alone, and a counter in no pair by its own modulo 2^32. By the
 -- carry. Assumes numbers of 32 bits, as the type gives them.
-use Prim.Native.Nat.{ℕ, zero, suc, _+_, _*_, _/_, _%_, _^_, _<_}
+use Prim.Native.Nat.{ℕ, suc, _+_, _*_, _/_, _%_, _^_, _<_}
 use native.Mathlib.Omega.{arith}
-use mathlib.Core.Path.{_≡_, sym, ap, ap₂, _∙_}
+use mathlib.Core.Path.{_≡_, ap, ap₂, _∙_}
 use mathlib.Core.Bool.{Bool, true, false, cond}
 use lib.ListN.{getD, length}
 use Rattle.counters.specs.Bank.{grown}
 use Rattle.counters.specs.declared.bank.Bank.{Bank}
-use Rattle.counters2.specs.Counts.{carried, counted, reaching, upper}
+use Rattle.counters2.specs.Counts.{carried, counted, upper}
 use Rattle.counters2.specs.Pairs.{pairAt}
 use Rattle.counters2.proofs.GrowLaws.{counted-at, lower-plain}
 

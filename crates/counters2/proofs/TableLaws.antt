@@ -3,8 +3,8 @@
 use Prim.Native.Nat.{ℕ, zero, suc, _*_, _/_, _%_, _^_, _<_}
 use native.Mathlib.Nat.{mod-lt, zero-add, zero-lt-suc}
 use native.Mathlib.Omega.{arith}
-use mathlib.Core.Path.{_≡_, refl, sym, ap, ap₂, _∙_}
-use mathlib.Core.Bool.{Bool, true, false, cond, not, _&&_, _||_, false≢true}
+use mathlib.Core.Path.{_≡_, refl, sym, ap, _∙_}
+use mathlib.Core.Bool.{Bool, true, false, cond, not, _&&_, _||_}
 use mathlib.Core.List.{List, [], _∷_}
 use lib.Dec.{eqb, leb}
 use lib.ListN.{getD, length, List·getD-eq-default}
@@ -16,7 +16,7 @@ use Rattle.counters.proofs.EachLaws.{each-at}
 use Rattle.counters2.specs.Clocks.{selected}
 use Rattle.counters2.specs.Codes.{byClock, byExternal, bySoftware, enabled, onHundredth, onNode, onStamp, onTenth, restarts, whileHigh}
 use Rattle.counters2.specs.Counts.{enableOf, modeOf, ownSignals, ownSoftware, ownTicks, restarted, selectOf}
-use Rattle.counters2.specs.Fields.{clocking, enabling, fieldAt, kept, moding}
+use Rattle.counters2.specs.Fields.{clocking, enabling, fieldAt, moding}
 use Rattle.counters2.specs.Table.{clockTable, enableTable, modeTable}
 use Rattle.counters2.specs.declared.clocks.Clocks.{Clocks}
 use Rattle.counters2.specs.declared.fields.Fields.{Fields}
