@@ -52,16 +52,20 @@ unfolding placeOf
 place-beyond a h =
     simp (le-ltb a 16 (omega arith), lt-leb a 23 (omega arith), lt-leb a 47 (omega arith), lt-leb a 111 (omega arith), lt-leb a 127 h, lt-ltb 127 a h)
 
+-- two tests of addresses are one, if they are for each up to 127 and above
+pub tests-same : (f g : ℕ → Bool) → upTo 128 (λ a. same (f a ∷ []) (g a ∷ [])) ≡ true → ((a : ℕ) → 127 < a → f a ≡ g a) → (a : ℕ) → f a ≡ g a
+tests-same f g each above a = go (ltb 127 a) refl
+  where
+    go : (h : Bool) → ltb 127 a ≡ h → f a ≡ g a
+    go true p = above a (ltb-true 127 a p)
+    go false p =
+        let one : (f a ∷ []) ≡ (g a ∷ []) =
+        same-eq _ _ (upTo-at 128 (λ b. same (f b ∷ []) (g b ∷ [])) each a (omega (arith, ltb-false 127 a p))) in
+        ap (λ (l : List Bool). getD l 0 false) one
+
 -- a test of places is a test of addresses, if it is for each up to 127, and both fail above
 pub place-test : (f : Place → Bool) (g : ℕ → Bool) → upTo 128 (λ a. same (f (placeOf a) ∷ []) (g a ∷ [])) ≡ true → f Beyond ≡ false → ((a : ℕ) → 127 < a → g a ≡ false) → (a : ℕ) → f (placeOf a) ≡ g a
-place-test f g each none above a = go (ltb 127 a) refl
-  where
-    go : (h : Bool) → ltb 127 a ≡ h → f (placeOf a) ≡ g a
-    go true p = ap f (place-beyond a (ltb-true 127 a p)) ∙ none ∙ sym (above a (ltb-true 127 a p))
-    go false p =
-        let one : (f (placeOf a) ∷ []) ≡ (g a ∷ []) =
-        same-eq _ _ (upTo-at 128 (λ b. same (f (placeOf b) ∷ []) (g b ∷ [])) each a (omega (arith, ltb-false 127 a p))) in
-        ap (λ (l : List Bool). getD l 0 false) one
+place-test f g each none above a = tests-same (λ b. f (placeOf b)) g each (λ b h. ap f (place-beyond b h) ∙ none ∙ sym (above b h)) a
 
 -- the test of an address from one up to another
 pub between-in : (first last a : ℕ) → between first last a ≡ true → (first ≤ a) × (a ≤ last)

@@ -4,13 +4,12 @@ use Prim.Native.Nat.{ℕ, _-_, _%_, _≤_, _<_}
 use native.Mathlib.Omega.{arith}
 use mathlib.Core.Path.{_≡_, refl, sym, ap, _∙_}
 use mathlib.Core.Bool.{Bool, true, false}
-use mathlib.Core.List.{List, [], _∷_}
-use lib.Dec.{leb, ltb}
-use lib.ListN.{getD}
-use borrow.Author.Tests.{lt-ltb, le-ltb, le-leb, lt-leb, leb-true, leb-false, ltb-true, ltb-false}
+use mathlib.Core.List.{[], _∷_}
+use lib.Dec.{leb}
+use borrow.Author.Tests.{lt-ltb, le-ltb, le-leb, lt-leb, leb-true, leb-false}
 use Rattle.chip.specs.Place.{between}
 use Rattle.chip.specs.Rows.{triggering}
-use Rattle.chip.proofs.AddressLaws.{between-in, same, same-eq, upTo, upTo-at}
+use Rattle.chip.proofs.AddressLaws.{between-in, same, tests-same, upTo}
 use Rattle.chip2.specs.Place.{placeOf}
 use Rattle.chip2.specs.Rows.{counterAt, shadowAt}
 use Rattle.chip2.specs.declared.place.Place.{Place}
@@ -23,14 +22,7 @@ place-beyond a h =
 
 -- a test of places is a test of addresses, if it is for each up to 127, and both fail above
 pub place-test : (f : Place → Bool) (g : ℕ → Bool) → upTo 128 (λ a. same (f (placeOf a) ∷ []) (g a ∷ [])) ≡ true → f Beyond ≡ false → ((a : ℕ) → 127 < a → g a ≡ false) → (a : ℕ) → f (placeOf a) ≡ g a
-place-test f g each none above a = go (ltb 127 a) refl
-  where
-    go : (h : Bool) → ltb 127 a ≡ h → f (placeOf a) ≡ g a
-    go true p = ap f (place-beyond a (ltb-true 127 a p)) ∙ none ∙ sym (above a (ltb-true 127 a p))
-    go false p =
-        let one : (f (placeOf a) ∷ []) ≡ (g a ∷ []) =
-        same-eq _ _ (upTo-at 128 (λ b. same (f (placeOf b) ∷ []) (g b ∷ [])) each a (omega (arith, ltb-false 127 a p))) in
-        ap (λ (l : List Bool). getD l 0 false) one
+place-test f g each none above a = tests-same (λ b. f (placeOf b)) g each (λ b h. ap f (place-beyond b h) ∙ none ∙ sym (above b h)) a
 
 pub place-trigger : (a : ℕ) → triggering a ≡ true → placeOf a ≡ Trigger (leb 112 a) (a % 16)
 unfolding placeOf

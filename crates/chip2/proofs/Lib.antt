@@ -2,8 +2,10 @@
 pub mod AddressLaws
 pub mod Bounds
 pub mod ChipLaws
+pub mod HighOrder
 pub mod LineLaws
 pub mod Refusals
+pub mod Remains
 pub mod Replies
 pub mod Resets
 pub mod RoomLaws

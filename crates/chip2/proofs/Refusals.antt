@@ -1,6 +1,7 @@
--- The table's columns "Value" and "Record" for every reply but 0, on the MultiKron II: each arm of the definitions gives what its row says. Assumes nothing.
+-- The table's columns "Value" and "Record" for every reply but 0, on the MultiKron II: each arm of the definitions gives what its row says. Assumes
+-- nothing.
 use Prim.Native.Nat.{ℕ, _^_}
-use mathlib.Core.Path.{_≡_, refl, ap, subst, _∙_}
+use mathlib.Core.Path.{_≡_, refl, sym, ap, subst, _∙_}
 use mathlib.Core.Bool.{Bool, true, false, cond, _&&_}
 use lib.Dec.{leb, eqb}
 use borrow.Author.Tests.{lt-leb}
@@ -13,6 +14,7 @@ use Rattle.control.specs.declared.reply.Reply.the-variants.{Lines, NoWord, Wait
 use Rattle.chip.specs.Chip.{blocked, lineOf, oneLine}
 use Rattle.chip.specs.Place.{between}
 use Rattle.chip.specs.Rows.{refused}
+use Rattle.chip.proofs.ChipLaws.{either}
 use Rattle.chip.proofs.Refusals.{Unless, refused-not, valueAt}
 use Rattle.chip2.specs.Chip2.{afterTicks, dataOf, done, externalEvents, fateOf, inside, nodeTicks, read, readAt, readCounter, replied, send, sendInto, sendNow, timestampTicks, trigger, triggerBy, withControl, withQueue, write, writeAt}
 use Rattle.chip2.specs.Operation.{Operation, opReset, opWrite, opRead, opTicks, opNodes, opEvents, opSend, opFill, step}
@@ -169,3 +171,14 @@ module _ (op : Operation) (c : Chip2) where
   -- 11: value "2^63", record "same"
   pub when-busy : step op c .number ≡ 11 → (step op c .value ≡ 2 ^ 63) × (step op c .chip ≡ c)
   when-busy e = kept-as 11 e
+
+  -- so every reply but 0 leaves the record as it was, but for flags and error counters
+  pub not-done : eqb (step op c .number) 0 ≡ false → step op c .chip ≡ withControl (step op c .chip .control) c
+  not-done e =
+      let n : ℕ = step op c .number in
+      let r : Bool = resourceTrigger op in
+      let T : Type 0 = (step op c .value ≡ valueAt n) × (step op c .chip ≡ recordAt r n c) in
+      let k : T = subst (λ (b : Bool). Unless b T) e (kept op c) in
+      k .1
+      ∙ either (λ d. d ≡ withControl (d .control) c) (eqb n 8) _ _ refl (either (λ d. d ≡ withControl (d .control) c) (eqb n 10) _ _ refl refl)
+      ∙ ap (λ (d : Chip2). withControl (d .control) c) (sym (k .1))

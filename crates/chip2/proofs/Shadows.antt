@@ -57,7 +57,7 @@ module _ (a : ℕ) (c : Chip2) (h : inside c ≡ true) (s : Shaped c) where
 -- ---- who writes the shadows
 
 -- the same as `copying` of a place that is written, and of one that is read
-abbrev copiedAt : Bool → Bool → Place → Bool
+abbrev pub copiedAt : Bool → Bool → Place → Bool
 copiedAt w r Beyond = false
 copiedAt w r Nowhere = false
 copiedAt w r Reset = w
@@ -81,7 +81,7 @@ write-at a =
     place-test (copiedAt true false) (λ b. eqb b 0 || between 112 127 b) refl refl
     (λ b h. λ i. ne-eqb b 0 (λ e. omega arith) i || (lt-leb b 127 h i && leb 112 b)) a
 
-read-at : (a : ℕ) → copiedAt false true (placeOf a) ≡ counterAt a
+pub read-at : (a : ℕ) → copiedAt false true (placeOf a) ≡ counterAt a
 unfolding placeOf registerOf
 read-at a = place-test (copiedAt false true) counterAt refl refl (λ b h. λ i. lt-leb b 79 (omega arith) i && leb 64 b) a
 
