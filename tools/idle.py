@@ -139,7 +139,7 @@ VERSIONS = {
         'a lost trigger adds two to the Overrun Counter', [
             ('crates/control/src/control.rt', 'wrapping_add_u32(self.overrun, 1)', 'wrapping_add_u32(self.overrun, 2)'),
             ('crates/control/specs/Control.antt', '(grown (c .overrun) 1)', '(grown (c .overrun) 2)'),
-        ], ['control', 'chip', 'marked'], [('history', 'by-fate')]),
+        ], ['control', 'chip', 'marked'], [('history', 'lost-control')]),
     'buffer_count_invented': (
         'a buffer send writes its words and returns the Timestamp for their number', [
             ('crates/chip/src/chip.rt', 'return self.done(sent.count);', 'return self.done(self.stamp);'),
@@ -189,7 +189,7 @@ VERSIONS = {
             ('crates/control/src/control.rt', 'self.readwait = pair(bits / 16 % 2 == 1, bits / 32 % 2 == 1,', 'self.readwait = pair(bits / 4 % 2 == 1, bits / 8 % 2 == 1,'),
             ('crates/control/specs/Control.antt', '(pair (bit d 2) (bit d 3) (c .writewait))', '(pair (bit d 4) (bit d 5) (c .writewait))'),
             ('crates/control/specs/Control.antt', '(pair (bit d 4) (bit d 5) (c .readwait))', '(pair (bit d 2) (bit d 3) (c .readwait))'),
-        ], ['control', 'chip'], [('history', 'configured-kept'), ('marked', 'marked-examples')]),
+        ], ['control', 'chip'], [('history', 'configured-control'), ('marked', 'marked-examples')]),
     'flags_exchanged': (
         'CSR bit 8 reads as flag 9, bit 9 as flag 8', [
             ('crates/control/src/control.rt', '256 * one(self.flagfull) + 512 * one(self.flagbusy)', '512 * one(self.flagfull) + 256 * one(self.flagbusy)'),
@@ -325,7 +325,7 @@ VERSIONS = {
             ('crates/control/src/control.rt', 'self.wait = next;', 'self.wait = next; self.overrun = next;'),
             ('crates/control/specs/Control.antt', 'waited c = withErrors (grown (c .wait) 1) (c .overrun) c', 'waited c = withErrors (grown (c .wait) 1) (grown (c .wait) 1) c'),
             ('crates/control/proofs/control/Control/waited/Proof.antt', 'withErrors n (s .overrun) s', 'withErrors n n s'),
-        ], ['control', 'chip', 'marked'], [('history', 'told')]),
+        ], ['control', 'chip', 'marked'], [('history', 'waited-control')]),
 }
 
 

@@ -4,17 +4,17 @@ use Prim.Native.Nat.{ℕ, zero, suc, _+_, _-_, _%_, _≤_, _<_, min}
 use native.Mathlib.Nat.{add-zero, le-trans, suc-ne-zero}
 use native.Mathlib.Omega.{arith}
 use mathlib.Core.Path.{_≡_, refl, sym, ap, ap₂, _∙_, subst}
-use mathlib.Core.Bool.{Bool, true, false, cond, not, _&&_, _||_, false≢true}
+use mathlib.Core.Bool.{Bool, true, false, cond, not, _||_, false≢true}
 use mathlib.Core.List.{List, [], _∷_, _++_}
-use lib.Dec.{eqb, leb, ltb}
+use lib.Dec.{eqb, leb}
 use lib.ListN.{length, drop, getD, replicate}
 use lib.Seq.{length-take-le}
-use borrow.Author.Tests.{eqb-true, eqb-false, eq-eqb, ne-eqb, le-leb, lt-leb, ltb-false, ltb-true}
+use borrow.Author.Tests.{eqb-true, eqb-false, eq-eqb, le-leb, lt-leb}
 use Rattle.samples.specs.declared.edition.Edition.the-variants.{First}
 use Rattle.chip.specs.Operation.{Operation, opReset, opWrite, opRead, opTicks, opNodes, opEvents, opSend, opFill, step}
 use Rattle.chip.specs.Place.{placeOf, registerOf}
 use Rattle.chip.specs.declared.chip.Chip.{Chip}
-use Rattle.chip.proofs.AddressLaws.{place-beyond, same, same-eq, upTo-at}
+use Rattle.chip.proofs.AddressLaws.{place-test}
 use Rattle.chip.proofs.Refusals.{when-waiting}
 use Rattle.history.specs.Ledger.{Fate, Ledger, afterFate, afterOne, entryOf, fateIn, fateNumber, isSet, ledgerFrom, ledgerOf, left, lineIn, resetAt, sentMore, wasTaken, wasTold, withStream}
 use Rattle.history.specs.Run.{chipOf, runFrom, sentOf}
@@ -146,17 +146,8 @@ sends-agree j l c a = subst (λ (m : Ledger). Agrees m (runFrom c (replicate j o
 pub may-said : (address : ℕ) (op : Operation) → mayCome address op ≡ leavesAlone address op
 unfolding afterOne placeOf registerOf
 may-said address (opReset hundredth) = refl
-may-said address (opWrite a bits lines) = ap (λ (b : Bool). eqb a address || not b) (go (ltb 127 a) refl)
-  where
-    go : (b : Bool) → ltb 127 a ≡ b → barred a ≡ mattersTo (placeOf a)
-    go true e =
-        let beyond : 127 < a = ltb-true 127 a e in
-        (λ i. ne-eqb a 0 (λ z. omega arith) i || (ne-eqb a 1 (λ z. omega arith) i || (ne-eqb a 4 (λ z. omega arith) i || (le-leb 96 a (omega arith) i && lt-leb a 127 beyond i))))
-        ∙ sym (ap mattersTo (place-beyond a beyond))
-    go false e =
-        let one : (barred a ∷ []) ≡ (mattersTo (placeOf a) ∷ []) =
-        same-eq _ _ (upTo-at 128 (λ b. same (barred b ∷ []) (mattersTo (placeOf b) ∷ [])) refl a (omega (arith, ltb-false 127 a e))) in
-        ap (λ (bs : List Bool). getD bs 0 false) one
+may-said address (opWrite a bits lines) =
+    ap (λ (b : Bool). eqb a address || not b) (sym (place-test mattersTo barred refl refl (λ x beyond. not-barred x (λ z. omega arith) (λ z. omega arith) (λ z. omega arith) (λ p q. omega arith)) a))
 may-said address (opRead a) = refl
 may-said address (opTicks k) = refl
 may-said address (opNodes k) = refl

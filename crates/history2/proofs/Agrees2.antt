@@ -49,7 +49,7 @@ chipFor l q =
 pub record Paired (ks : List Control2) (cs : List Count) : Type 0 where
   pub sixteen : length ks ≡ 16
   pub eight : length cs ≡ 8
-  pub narrow : (i : ℕ) → i < 16 → getD ks i noControl .mode < 16
+  pub small : (i : ℕ) → i < 16 → getD ks i noControl .mode < 16
   pub same : (j : ℕ) → j < 8 → isJoined (getD cs j noCount) ≡ pairs ks j
 
 -- what is known of the queue and of the pairs: over these parts alone, so that an operation which changes none of them has nothing to show
@@ -91,7 +91,7 @@ paired-reset =
     record {
       sixteen = refl;
       eight = refl;
-      narrow = λ i h. subst (λ (k : Control2). k .mode < 16) (sym (getD-replicate 16 i noControl noControl h)) (omega arith);
+      small = λ i h. subst (λ (k : Control2). k .mode < 16) (sym (getD-replicate 16 i noControl noControl h)) (omega arith);
       same = λ j h. ap isJoined (getD-replicate 8 j noCount noCount h) ∙ ap (λ (k : Control2). leb 8 (k .mode)) (sym (getD-replicate 16 (2 * j) noControl noControl (omega arith)));
     }
 
@@ -104,18 +104,18 @@ module _ (ks : List Control2) (cs : List Count) (p : Paired ks cs) where
 
   -- a change of other fields than Mode's
   pub paired-controls : (f : ℕ → Control2 → Control2) → ((i : ℕ) (k : Control2) → f i k .mode ≡ k .mode) → Paired (eachFrom 0 f ks) cs
-  paired-controls f m = record { sixteen = each-length 0 f ks ∙ p .sixteen; eight = p .eight; narrow = narrow; same = λ j h. p .same j h ∙ ap (leb 8) (sym (mode-at (2 * j) (omega arith))) }
+  paired-controls f m = record { sixteen = each-length 0 f ks ∙ p .sixteen; eight = p .eight; small = small; same = λ j h. p .same j h ∙ ap (leb 8) (sym (mode-at (2 * j) (omega arith))) }
     where
       mode-at : (i : ℕ) → i < 16 → getD (eachFrom 0 f ks) i noControl .mode ≡ getD ks i noControl .mode
       mode-at i h = ap (λ (k : Control2). k .mode) (control-at f i h) ∙ m i (getD ks i noControl)
 
-      narrow : (i : ℕ) → i < 16 → getD (eachFrom 0 f ks) i noControl .mode < 16
-      narrow i h = subst (λ (n : ℕ). n < 16) (sym (mode-at i h)) (p .narrow i h)
+      small : (i : ℕ) → i < 16 → getD (eachFrom 0 f ks) i noControl .mode < 16
+      small i h = subst (λ (n : ℕ). n < 16) (sym (mode-at i h)) (p .small i h)
 
   -- events and numbers written
   pub paired-counts : (f : ℕ → Count → Count) → ((j : ℕ) (c : Count) → isJoined (f j c) ≡ isJoined c) → Paired ks (eachFrom 0 f cs)
   paired-counts f m =
-      record { sixteen = p .sixteen; eight = each-length 0 f cs ∙ p .eight; narrow = p .narrow; same = λ j h. ap isJoined (count-at f j h) ∙ m j (getD cs j noCount) ∙ p .same j h }
+      record { sixteen = p .sixteen; eight = each-length 0 f cs ∙ p .eight; small = p .small; same = λ j h. ap isJoined (count-at f j h) ∙ m j (getD cs j noCount) ∙ p .same j h }
 
   -- a write of Mode
   pub paired-moded : (bits : ℕ) → let ks′ = eachFrom 0 (moding bits) ks in Paired ks′ (eachFrom 0 (λ j c. paired (pairs ks′ j) c) cs)
@@ -123,12 +123,12 @@ module _ (ks : List Control2) (cs : List Count) (p : Paired ks cs) where
       record {
         sixteen = each-length 0 (moding bits) ks ∙ p .sixteen;
         eight = each-length 0 _ cs ∙ p .eight;
-        narrow = λ i h. subst (λ (k : Control2). k .mode < 16) (sym (control-at (moding bits) i h)) (held i h (eqb (fieldIn bits i % 8) 0));
+        small = λ i h. subst (λ (k : Control2). k .mode < 16) (sym (control-at (moding bits) i h)) (held i h (eqb (fieldIn bits i % 8) 0));
         same = λ j h. ap isJoined (count-at (λ k c. paired (pairs (eachFrom 0 (moding bits) ks) k) c) j h) ∙ asked (pairs (eachFrom 0 (moding bits) ks) j) (getD cs j noCount);
       }
     where
       held : (i : ℕ) → i < 16 → (b : Bool) → cond b (getD ks i noControl .mode) (fieldIn bits i) < 16
-      held i h true = p .narrow i h
+      held i h true = p .small i h
       held i h false = mod-lt (bits / 16 ^ i) (omega arith)
 
       asked : (b : Bool) (c : Count) → isJoined (paired b c) ≡ b

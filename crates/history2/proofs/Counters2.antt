@@ -92,7 +92,7 @@ module _ (ks : List Control2) (cs : List Count) (p : Paired ks cs) where
   register-pairs j h =
       let few : j < 8 = rw (p .eight) at h in
       let here : 2 * j < length ks = rw (p .sixteen) (omega arith) in
-      ap (leb 8) (packed-field (λ k. k .mode) ks (2 * j) here ∙ mod-eq-of-lt (p .narrow (2 * j) (omega arith))) ∙ sym (p .same j few)
+      ap (leb 8) (packed-field (λ k. k .mode) ks (2 * j) here ∙ mod-eq-of-lt (p .small (2 * j) (omega arith))) ∙ sym (p .same j few)
 
   -- what is due by the record's fields and by the ledger's is counted alike
   module _ (sh : List ℕ) where

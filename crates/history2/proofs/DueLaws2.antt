@@ -18,7 +18,7 @@ use Rattle.counters2.specs.declared.clocks.Clocks.{Clocks}
 use Rattle.counters2.specs.declared.fields.Fields.{Fields}
 use Rattle.chip.proofs.AddressLaws.{same, same-eq, upTo, upTo-at}
 use Rattle.history.proofs.Addresses.{below}
-use Rattle.history.proofs.CountLaws.{slow-same}
+use Rattle.history.proofs.CountLaws.{slow-falls, slow-same}
 use Rattle.history2.specs.Counts2.{Control2, clockOf, clocks, dueExternal, dueSoftware, dueTicks, isOn, modeOf, modes, noControl, nodeTicks, packed, stampTicks}
 use Rattle.history2.proofs.CountLaws2.{packed-field}
 
@@ -86,3 +86,10 @@ pub node-same : (n k : ℕ) → ticksOf (nodeClocks (n % 100) k) ≡ nodeTicks n
 node-same n k =
     let tenth : (n % 100 % 10 + k) / 10 ≡ (n + k) / 10 - n / 10 = ap (λ (m : ℕ). (m + k) / 10) (omega arith) ∙ sym (slow-same false n k) in
     λ j. 0 ∷ k ∷ tenth j ∷ sym (slow-same true n k) j ∷ 0 ∷ []
+
+-- "A tenth falls on every tenth node tick since the last reset, a hundredth likewise": on that tick one, and none on another
+pub tenth-falls : (n : ℕ) → getD (nodeTicks n 1) 2 0 ≡ cond (eqb ((n + 1) % 10) 0) 1 0
+tenth-falls n = slow-falls false n
+
+pub hundredth-falls : (n : ℕ) → getD (nodeTicks n 1) 3 0 ≡ cond (eqb ((n + 1) % 100) 0) 1 0
+hundredth-falls n = slow-falls true n

@@ -157,7 +157,7 @@ pairing-said ops j h =
     (sym
     (ap (λ (n : ℕ). fieldAt n (2 * j)) (part ops (λ c. c .fields .mode))
     ∙ packed-field (λ k. k .mode) (l .controls) (2 * j) (rw (p .sixteen) (omega arith))
-    ∙ mod-eq-of-lt (p .narrow (2 * j) (omega arith))))
+    ∙ mod-eq-of-lt (p .small (2 * j) (omega arith))))
 
 -- ---- 6. The three registers hold the fields that the list says; the shadows what was last copied, and the High Order register what it says
 

@@ -1,6 +1,6 @@
 -- Document 02, Wish 9: "a counter is its last written number plus events since, modulo 2^32 or 2^64 for a pair". The sixteen counters of the MultiKron II as
--- a list of operations tells of them: unbounded numbers, and the codes of document 001, Tables B5 to B7, as numbers. "DECISIONS" is docs/DECISIONS.md, "The
--- MultiKron II".
+-- a list of operations tells of them: unbounded numbers, and the codes of document 001, Tables B5 to B7, as numbers. Quotations are of Wish 9 where nothing else
+-- is named; "DECISIONS" is docs/DECISIONS.md, "The MultiKron II".
 use Prim.Native.Nat.{ℕ, suc, _+_, _-_, _*_, _/_, _%_, _^_}
 use mathlib.Core.Path.{_≡_}
 use mathlib.Core.Bool.{Bool, true, false, cond, _&&_, _||_}
@@ -99,7 +99,7 @@ paired false (joined t) = apart (anew (lowOf (joined t))) (anew (highOf (joined 
 abbrev pub fieldIn : ℕ → ℕ → ℕ
 fieldIn bits i = bits / 16 ^ i % 16
 
--- "a zero field changing nothing": DECISIONS: "a field whose low two bits are 00 changes nothing" (Enable), "a field whose low three bits are 000" (Mode, Clock
+-- "a zero field changing nothing"; DECISIONS: "a field whose low two bits are 00 changes nothing" (Enable), "a field whose low three bits are 000" (Mode, Clock
 -- Select); "any other is held as written"
 abbrev pub holding : ℕ → ℕ → ℕ → ℕ
 holding low old new = cond (eqb (new % low) 0) old new
@@ -127,35 +127,36 @@ pairs ks j = leb 8 (getD ks (2 * j) noControl .mode)
 
 -- ---- events
 
--- Table B7: "10 enabled, 11 enabled and the counter set to 0"
+-- Table B7, by Enable's low two bits; DECISIONS: "low bits 01 disabled, 10 enabled, 11 enabled and the counter set to 0 as it is written"
 abbrev pub isOn : Control2 → Bool
 isOn k = leb 2 (k .enable % 4)
 
--- Table B5, by Mode's low three bits: 0 nothing, 1 clock, 2 software, 3 clock while the line is high, 4 external ("1, 5 clock · 2, 6 software · 3, 7 clock while
--- its external line is high · 4 external")
+-- Table B5, by Mode's low three bits: 0 nothing, 1 clock, 2 software, 3 clock while the line is high, 4 external; DECISIONS: "1, 5 clock · 2, 6 software · 3, 7
+-- clock while its external line is high · 4 external"
 abbrev pub modes : List ℕ
 modes = 0 ∷ 1 ∷ 2 ∷ 3 ∷ 4 ∷ 1 ∷ 2 ∷ 3 ∷ []
 
 abbrev pub modeOf : Control2 → ℕ
 modeOf k = getD modes (k .mode % 8) 0
 
--- Table B6, by Clock Select's: 0 nothing, 1 node, 2 a tenth, 3 a hundredth, 4 Timestamp ("1, 5 node · 2, 6 a tenth of node · 3, 7 a hundredth · 4 Timestamp")
+-- Table B6, by Clock Select's: 0 nothing, 1 node, 2 a tenth, 3 a hundredth, 4 Timestamp; DECISIONS: "1, 5 node · 2, 6 a tenth of node · 3, 7 a hundredth · 4
+-- Timestamp"
 abbrev pub clocks : List ℕ
 clocks = 0 ∷ 1 ∷ 2 ∷ 3 ∷ 4 ∷ 1 ∷ 2 ∷ 3 ∷ []
 
 abbrev pub clockOf : Control2 → ℕ
 clockOf k = getD clocks (k .select % 8) 0
 
--- the ticks of each clock, in that order: of k Timestamp ticks, and of k node ticks after n. "A tenth falls on every tenth node tick since the last reset, a
--- hundredth likewise"
+-- the ticks of each clock, in that order: of k Timestamp ticks, and of k node ticks after n. DECISIONS: "A tenth falls on every tenth node tick since the last
+-- reset, a hundredth likewise"
 abbrev pub stampTicks : ℕ → List ℕ
 stampTicks k = 0 ∷ 0 ∷ 0 ∷ 0 ∷ k ∷ []
 
 abbrev pub nodeTicks : ℕ → ℕ → List ℕ
 nodeTicks n k = 0 ∷ k ∷ ((n + k) / 10 - n / 10) ∷ ((n + k) / 100 - n / 100) ∷ 0 ∷ []
 
--- "An event counts if the counter is enabled and its fields select it": how many are due to counter i by its fields, of ticks with the external lines that are
--- high, of external events, and of a software event for counter n
+-- DECISIONS: "An event counts if the counter is enabled and its fields select it": how many are due to counter i by its fields, of ticks with the external lines
+-- that are high, of external events, and of a software event for counter n
 abbrev pub dueTicks : List ℕ → ℕ → ℕ → Control2 → ℕ
 dueTicks ticks levels i k =
     cond (isOn k && (eqb (modeOf k) 1 || (eqb (modeOf k) 3 && isSet levels i))) (getD ticks (clockOf k) 0) 0
@@ -169,8 +170,8 @@ dueSoftware n i k = cond (eqb i n && (isOn k && eqb (modeOf k) 2)) 1 0
 abbrev pub more : ℕ → Tally → Tally
 more n t = record { written = t .written; events = t .events + n }
 
--- n events due by the even counter's fields and m by the odd one's: "A pair counts what the even one's fields and enabling say ..; the odd one's fields and events
--- count nothing while paired"
+-- n events due by the even counter's fields and m by the odd one's; DECISIONS: "A pair counts what the even one's fields and enabling say ..; the odd one's fields
+-- and events count nothing while paired"
 abbrev pub grownBy : ℕ → ℕ → Count → Count
 grownBy n m (apart a b) = apart (more n a) (more m b)
 grownBy n m (joined t) = joined (more n t)

@@ -169,7 +169,7 @@ dataIn bits l = cond (l .narrow) (bits % 2 ^ 32 + 2 ^ 32 * l .high) bits
 abbrev pub moded : List Control2 → Ledger → Ledger
 moded ks l = withCounters ks (eachFrom 0 (λ j c. paired (pairs ks j) c) (l .counts)) l
 
--- a write below 32, by the map's rows: 0 software reset, 1 CSR ("CSR bit 14 sets 32-bit mode, bit 15 clears it"), 2 refused, 4 Filter, 5 and 6 clear, 7 High
+-- a write below 32, by the map's rows: 0 software reset, 1 CSR (DECISIONS: "CSR bit 14 sets 32-bit mode, bit 15 clears it"), 2 refused, 4 Filter, 5 and 6 clear, 7 High
 -- Order register, 8 Enable, 10 Mode, 12 Clock Select
 unfoldable pub writtenLow : ℕ → ℕ → Ledger → Entry
 writtenLow a bits l =
@@ -184,8 +184,8 @@ writtenLow a bits l =
     (cond (eqb a 10) (tells 0 0 (moded (eachFrom 0 (moding bits) (l .controls)) l))
     (tells 0 0 (withCounters (eachFrom 0 (selecting bits) (l .controls)) (l .counts) l))))))))))
 
--- a write of data: "96..111 Trace trigger, filter level = address mod 16", "112..127 Resource trigger, level likewise"; Table B4: "80..95 software event for
--- counter 0..15", "64..79 counter 0..15, 32 bits", "32..39 Source Address 0..7, 32 bits"
+-- a write of data: "96..111 Trace trigger, filter level = address mod 16", "112..127 Resource trigger, level likewise"; DECISIONS: 80..95 "software event for
+-- counter 0..15", 64..79 "counter 0..15, 32 bits", 32..39 "Source Address 0..7, 32 bits"
 unfoldable pub written : ℕ → ℕ → ℕ → Ledger → Entry
 written a bits lines l =
     byRange a l
@@ -199,7 +199,7 @@ written a bits lines l =
 abbrev pub answers : ℕ → Ledger → Entry
 answers v l = tells 0 v (withHigh (v / 2 ^ 32) l)
 
--- "Bits above a register's width read 1": a number of so many bits
+-- DECISIONS: "Bits above a register's width read 1": a number of so many bits
 abbrev pub onesOver : ℕ → ℕ → ℕ
 onesOver width n = 2 ^ 64 - 2 ^ width + n
 
@@ -213,7 +213,7 @@ csrIn l =
     + (cond (l .errors .flagfull) 256 0 + cond (l .errors .flagbusy) 512 0)
     + cond (l .narrow) 16384 32768
 
--- a read below 32: 0 is refused, 1 CSR, 2 Timestamp, 4 Filter, 5 Wait Counter, 6 Overrun Counter, 7 High Order register ("a read of 7 itself leaves it"), 8
+-- a read below 32: 0 is refused, 1 CSR, 2 Timestamp, 4 Filter, 5 Wait Counter, 6 Overrun Counter, 7 High Order register (DECISIONS: "a read of 7 itself leaves it"), 8
 -- Enable, 10 Mode, 12 Clock Select
 unfoldable pub readLow : ℕ → Ledger → Entry
 readLow a l =
@@ -251,7 +251,7 @@ left l = totalOf Second (l .taken) - l .sent
 abbrev pub sentMore : ℕ → Ledger → Ledger
 sentMore room l = withStream (l .taken) (l .sent + min room (left l)) l
 
--- one operation; ticks have "the external lines that are high during all of these ticks"
+-- one operation; DECISIONS: ticks have "the external lines that are high during all of these ticks"
 unfoldable pub entryOf : Operation → Ledger → Entry
 entryOf opReset l = tells 0 0 (resetAt 0)
 entryOf (opWrite address bits lines) l = written address (dataIn bits l) lines l
