@@ -31,31 +31,43 @@ Inv-loop input out₀ count table words₀ state₀ at₀ i₀ out words state a
 abbrev μ-loop : tie.MeasureT-loop
 μ-loop input out₀ count table words₀ state₀ at₀ i₀ out words state at i = count - i
 
--- the record of a turn
-asked : (d : tie.After-decode Inv-loop μ-loop) → d .decode .result ≡ recordAt (d .before .before .before .before .before .before .before .before .before .before .before .args .input .now) (d .before .before .before .before .loop .i)
-asked d =
-    let l : List ℕ = d .before .before .before .before .before .before .before .before .before .before .before .args .input .now in
-    let i = d .before .before .before .before .loop .i in
-    d .decode .ensures ∙ ap operationOf (ap (λ (k : ℕ). take (16 * i + k - 16 * i) (drop (16 * i) l)) (d .before .before .least2 .ensures) ∙ record-part l (16 * i))
+-- a turn: what it starts from, and the record it has
+module _ (d : tie.After-decode Inv-loop μ-loop) where
+  abbrev input : List ℕ
+  input = d .before .before .before .before .before .before .before .before .before .before .before .args .input .now
 
--- a turn that sends no words into a buffer
-module _ (d : tie.After-decode Inv-loop μ-loop) (o : Operation) (e : d .decode .result ≡ o) where
+  abbrev before : List ℕ
+  before = d .before .before .before .before .before .before .before .before .before .before .before .args .out .now
+
+  abbrev first : Chip2
+  first = d .before .before .before .before .before .before .before .before .before .before .before .args .chip
+
+  abbrev i : ℕ
+  i = d .before .before .before .before .loop .i
+
   abbrev state : Chip2
   state = d .before .before .before .before .loop .state
 
-  abbrev next : Chip2 → ℕ → List ℕ → Type 0
-  next chip end after = Ran (d .before .before .before .before .before .before .before .before .before .before .before .args .input .now) (d .before .before .before .before .before .before .before .before .before .before .before .args .out .now) (d .before .before .before .before .before .before .before .before .before .before .before .args .chip) (d .before .before .before .before .loop .i + 1) chip end after
+  abbrev words : List ℕ
+  words = d .before .before .before .before .loop .words
 
-  abbrev put : ℕ → ℕ → List ℕ → ℕ → ℕ → List ℕ → Type 0
-  put number value words most end after =
-      (end ≡ d .before .before .before .before .loop .at + length (wordsLine number value words)) × ((end ≤ most) × (after ≡ sets (d .before .before .before .before .loop .out) (d .before .before .before .before .loop .at) (wordsLine number value words)))
+  abbrev at : ℕ
+  at = d .before .before .before .before .loop .at
 
-  turned : (t : Told) → t ≡ stepOf o state → (words : List ℕ) → words ≡ sentWords o state → {most end : ℕ} {after : List ℕ} → most ≤ d .before .before .before .before .loop .at + 6042 → put (t .number) (t .value) words most end after → next (t .chip) end after
-  turned t step words sent m p =
-      ran-on (d .before .before .before .before .before .before .before .before .before .before .before .args .input .now) (d .before .before .before .before .before .before .before .before .before .before .before .args .out .now) (d .before .before .before .before .before .before .before .before .before .before .before .args .chip) (d .before .before .before .before .loop .i) (omega arith) (d .before .before .before .before .loop .inv .4) o (sym (asked d) ∙ e) t step words sent (p .0) (omega arith) (p .1 .1)
+  asked : d .decode .result ≡ recordAt input i
+  asked = d .decode .ensures ∙ ap operationOf (ap (λ (k : ℕ). take (16 * i + k - 16 * i) (drop (16 * i) input)) (d .before .before .least2 .ensures) ∙ record-part input (16 * i))
 
-  answered : (a : Answer) → told a ≡ stepOf o state → {number : ℕ} → number ≡ replyNumber (a .reply) → (words : List ℕ) → words ≡ sentWords o state → {most end : ℕ} {after : List ℕ} → most ≤ d .before .before .before .before .loop .at + 6042 → put number (a .value) words most end after → next (a .chip) end after
-  answered a step {number} n = turned (record { chip = a .chip; number = number; value = a .value }) ((λ j. record { chip = a .chip; number = n j; value = a .value }) ∙ step)
+  -- a line of so many bytes at most is put, and the next turn starts from there
+  abbrev Put : ℕ → ℕ → List ℕ → ℕ → ℕ → List ℕ → Type 0
+  Put number value sent most end after =
+      (end ≡ at + length (wordsLine number value sent)) × ((end ≤ most) × (after ≡ sets (d .before .before .before .before .loop .out) at (wordsLine number value sent)))
+
+  module _ (o : Operation) (e : d .decode .result ≡ o) where
+    turned : (t : Told) → t ≡ stepOf o state → (sent : List ℕ) → sent ≡ sentWords o state → {most end : ℕ} {after : List ℕ} → most ≤ at + 6042 → Put (t .number) (t .value) sent most end after → Ran input before first (i + 1) (t .chip) end after
+    turned t step sent w m p = ran-on input before first i (omega arith) (d .before .before .before .before .loop .inv .4) o (sym asked ∙ e) t step sent w (p .0) (omega arith) (p .1 .1)
+
+    answered : (a : Answer) → told a ≡ stepOf o state → {number : ℕ} → number ≡ replyNumber (a .reply) → (sent : List ℕ) → sent ≡ sentWords o state → {most end : ℕ} {after : List ℕ} → most ≤ at + 6042 → Put number (a .value) sent most end after → Ran input before first (i + 1) (a .chip) end after
+    answered a step {number} n = turned (record { chip = a .chip; number = number; value = a .value }) ((λ j. record { chip = a .chip; number = n j; value = a .value }) ∙ step)
 
 -- a buffer send asks for at most as many places as there are
 few : (p : tie.After-places Inv-loop μ-loop) → p .places .given .0 .0 ≤ 1000
@@ -64,7 +76,13 @@ few p = few-places _ (sym (p .before .before .decode .ensures) ∙ p .places .gi
 -- and its words are the first ones of those places
 module _ (f : tie.After-send-into Inv-loop μ-loop) where
   abbrev chip : Chip2
-  chip = f .before .before .before .before .before .before .before .before .before .loop .state
+  chip = state (f .before .before .before .before .before)
+
+  abbrev old : List ℕ
+  old = words (f .before .before .before .before .before)
+
+  abbrev filled : List ℕ
+  filled = f .send-into .last .1 .0
 
   abbrev places : ℕ
   places = f .before .before .before .places .given .0 .0
@@ -73,10 +91,10 @@ module _ (f : tie.After-send-into Inv-loop μ-loop) where
   value = f .send-into .result .value
 
   abbrev after : List ℕ
-  after = f .send-into .last .1 .0 ++ drop places (f .before .before .before .before .before .before .before .before .before .loop .words)
+  after = filled ++ drop places old
 
-  lent : length (take places (f .before .before .before .before .before .before .before .before .before .loop .words)) ≡ places
-  lent = length-take-le places (f .before .before .before .before .before .before .before .before .before .loop .words) (omega (arith, few (f .before .before .before)))
+  lent : length (take places old) ≡ places
+  lent = length-take-le places old (omega (arith, few (f .before .before .before)))
 
   sent : told (f .send-into .result) ≡ sendInto places chip
   sent = f .send-into .ensures .0 ∙ ap (λ (n : ℕ). sendInto n chip) lent
@@ -84,11 +102,11 @@ module _ (f : tie.After-send-into Inv-loop μ-loop) where
   value-places : value ≤ places
   value-places = omega (arith, ap (λ (t : Told). t .value) sent, few-sent chip places)
 
-  kept : length (f .send-into .last .1 .0) ≡ places
+  kept : length filled ≡ places
   kept = f .send-into .kept .1 .0 ∙ lent
 
   same : length after ≡ 1000
-  same = omega (arith, length-append (f .send-into .last .1 .0) (drop places (f .before .before .before .before .before .before .before .before .before .loop .words)), length-drop places (f .before .before .before .before .before .before .before .before .before .loop .words), kept, few (f .before .before .before))
+  same = omega (arith, length-append filled (drop places old), length-drop places old, kept, few (f .before .before .before))
 
   shown : length (take value after) ≡ value
   shown = length-take-le value after (omega (arith, same, value-places, few (f .before .before .before)))
@@ -96,9 +114,9 @@ module _ (f : tie.After-send-into Inv-loop μ-loop) where
   its-words : take value after ≡ sentWords (Fill places) chip
   unfolding sentWords
   its-words =
-      take-append-le value (f .send-into .last .1 .0) (drop places (f .before .before .before .before .before .before .before .before .before .loop .words)) (omega (arith, kept, value-places))
+      take-append-le value filled (drop places old) (omega (arith, kept, value-places))
       ∙ ap₂ take (ap (λ (t : Told). t .value) sent) (f .send-into .ensures .1)
-      ∙ any-buffer chip (take places (f .before .before .before .before .before .before .before .before .before .loop .words)) places lent
+      ∙ any-buffer chip (take places old) places lent
 
 record-count-requires : tie.Need-record-count-requires Inv-loop μ-loop
 record-count-requires c κs = search needs
