@@ -1,4 +1,5 @@
 pub mod Chip2
+pub mod Left
 pub mod Operation
 pub mod Parts
 pub mod Place

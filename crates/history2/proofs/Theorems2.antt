@@ -19,6 +19,8 @@ use Rattle.chip2.specs.Chip2.{fresh, inside}
 use Rattle.chip2.specs.Operation.{Operation, opWrite, step}
 use Rattle.chip2.specs.Shape.{Shaped}
 use Rattle.chip2.specs.declared.chip2.Chip2.{Chip2}
+use Rattle.chip2.specs.Left.{Leavable}
+use Rattle.chip2.proofs.Left.{fresh-left, keeps-left}
 use Rattle.chip2.proofs.Bounds.{fresh-shaped, keeps-shaped}
 use Rattle.chip2.proofs.Bounds.{never-15 as inside-never-15}
 use Rattle.chip2.proofs.Replies.{waiting-never-8}
@@ -238,3 +240,13 @@ always-shaped ops = go ops fresh fresh-shaped
     go : (os : List Operation) (c : Chip2) → Shaped c → Shaped (runFrom c os)
     go [] c s = s
     go (op ∷ os) c s = go os (step op c .chip) (keeps-shaped op c s)
+
+-- ---- Nor do Enable, Mode and Clock Select ever hold a field that no operation can leave
+
+pub always-left : (ops : List Operation) → Leavable (chipOf ops .fields)
+unfolding runFrom
+always-left ops = go ops fresh fresh-left
+  where
+    go : (os : List Operation) (c : Chip2) → Leavable (c .fields) → Leavable (runFrom c os .fields)
+    go [] c h = h
+    go (op ∷ os) c h = go os (step op c .chip) (keeps-left op c h)
