@@ -23,8 +23,8 @@ Of WRONG-PROGRAMS:
   nothing else stands there.
 
 Of the files themselves:
-- Every old text of an edit or version occurs as often as it has to in the file
-  that it changes.
+- Every old text of an edit, in the gate or in tools/edits, or of a version
+  occurs as often as it has to in the file that it changes.
 - No public function has a `requires`, of a program neither.
 
 Faults are listed, and the status is 1; else one line says what was checked.
@@ -114,6 +114,11 @@ def items():
 def edits():
     """Each edit as `crate/name`, with its file."""
     return {f"{path.split('/')[1]}/{os.path.basename(path)[: -len('.edit')]}": path for path in files("crates/*/must-fail/*.edit")}
+
+
+def edits_outside():
+    """Each edit that tools/try_edits.py tries outside the gate, likewise."""
+    return {f"{path.split('/')[2]}/{os.path.basename(path)[: -len('.edit')]}": path for path in files("tools/edits/*/*.edit")}
 
 
 def is_path(name):
@@ -219,6 +224,20 @@ def check_edits(page, known, inside):
     return faults
 
 
+def check_outside():
+    """The edits outside the gate that have the name of one inside it, and their old texts that don't stand exactly once in their file."""
+    faults = [f"{path}: crates has an edit of this name too" for name, path in edits_outside().items() if name in edits()]
+    for name, path in edits_outside().items():
+        target = None
+        for line in text_of(path).split("\n"):
+            key, _, rest = line.partition(": ")
+            if key == "file":
+                target = f"crates/{name.split('/')[0]}/{rest}"
+            elif key == "old" and text_of(target).count(rest) != 1:
+                faults.append(f"{path}: {text_of(target).count(rest)} times in {target}: {rest.strip()}")
+    return faults
+
+
 def check_versions(page):
     """What the rows of the idle versions leave out, and their old texts that don't stand exactly once in their file."""
     faults = []
@@ -266,12 +285,13 @@ def main():
     if len(sys.argv) != 1:
         sys.exit(__doc__)
     page, programs, declared, known = text_of(PAGE), text_of(PROGRAMS), definitions(), edits()
+    tried = {**known, **edits_outside()}
     paths, public, inside = items()
     names, faults = check_names(PAGE, page, declared, paths, known)
-    more, others = check_names(PROGRAMS, programs, declared, paths, known)
+    more, others = check_names(PROGRAMS, programs, declared, paths, tried)
     words, long = check_words(page)
     faults += others + long + check_sizes(page) + check_edits(page, known, inside) + check_versions(page)
-    faults += check_public(programs, public, known) + check_asks(inside)
+    faults += check_public(programs, public, tried) + check_asks(inside) + check_outside()
     for fault in faults:
         print(fault)
     if faults:
