@@ -5,8 +5,8 @@
 
 tools/edits/CRATE/NAME.edit changes the crate CRATE. Each edit is applied to a
 copy of the repository and the crate checked by `rt dev`; the first error is
-printed. Without names all are tried, some ten seconds each. The status is 1 if
-one of them isn't refused. The gate has an edit for each statement; these are
+printed, or the first fact that isn't proved. Without names all are tried, some
+ten seconds each. The status is 1 if one of them isn't refused. The gate has an edit for each statement; these are
 others for the same statements, too many for its time.
 """
 
@@ -57,11 +57,11 @@ def main():
             crate, name = os.path.basename(os.path.dirname(path)), os.path.basename(path)[: -len(".edit")]
             before = apply(path, os.path.join(copy, "crates", crate))
             done = subprocess.run(["rt", "dev", crate], cwd=copy, stdout=subprocess.PIPE, stderr=subprocess.STDOUT, text=True)
-            errors = [line.replace(copy + "/", "") for line in done.stdout.split("\n") if ": error: " in line]
+            said = [line.replace(copy + "/", "") for line in done.stdout.split("\n") if ": error: " in line or "is not proved that" in line]
             for target, text in before.items():
                 write(target, text)
-            print(f"{crate}/{name}: {errors[0][:120] if done.returncode and errors else 'TAKEN'}", flush=True)
-            if not (done.returncode and errors):
+            print(f"{crate}/{name}: {said[0][:120] if done.returncode and said else 'TAKEN'}", flush=True)
+            if not (done.returncode and said):
                 taken.append(name)
     if taken:
         sys.exit(1)
