@@ -30,31 +30,17 @@ reset leaves sampling off and the Filter 0, stretches open both, again and again
                reads of 7 after reads, after refused ones, and twice
     shadows    reads with and without copy, shadows free and busy, read wait on
                and off, counters that change while a Resource sample is held
-    tasks      turns of tasks that count, single and paired, read with copy and
-               hand over, shadows free or busy; single bytes of the kept buffer
-               set, most of them of the field registers, with codes that a
-               register can hold or can't; givings-back, while a Resource sample
-               is held too; whole sets of another task set byte by byte and
-               given back; after both, reads of 7, 8, 10, 12, of all counters with
-               and without copy, events, and at once the next hand-over, which
-               shows all that was given back
     sweep      every address from 0 to 255 written and read, in changing order
     mixed      all operations, all addresses, all sorts of data, few resets
     near       records close to legal ones; noise: random bytes, half with few bits set
 
-Hand-overs and givings-back, mostly one soon after the other, come into resets,
-counting, pairs, bus, shadows and mixed too. The kept buffer is zeros at the start,
-which gives 14, and gets good by a hand-over or by bytes set. Now and then a
-hand-over or a giving-back has fewer than 88 places.
-
-Into most modes come bad records (a kind above 10, a nonzero zero byte, a tick
-count above 2^32 - 1, a mask of events above 65535, more than 1,000 places, more
-than 100 for a set, a byte from 100 on), and about one record in sixteen gets odd
-bits where they must be ignored: fields its kind doesn't need, the mask of high
-lines too, data bits beyond a register's width. A file of a SEED that leaves 3
-when divided by 4 ends with a part of a record. No file reaches the Timestamp's
-wrap at 2^56, which needs 2^24 records, nor those of the Wait and Overrun
-Counters, which need 2^32.
+Into most modes come bad records (a kind above 7, a nonzero zero byte, a tick
+count above 2^32 - 1, a mask of events above 65535, more than 1,000 places), and
+about one record in sixteen gets odd bits where they must be ignored: fields its
+kind doesn't need, the mask of high lines too, data bits beyond a register's width.
+A file of a SEED that leaves 3 when divided by 4 ends with a part of a record. No
+file reaches the Timestamp's wrap at 2^56, which needs 2^24 records, nor those of
+the Wait and Overrun Counters, which need 2^32.
 
 The maker keeps a guess of the bus's mode alone, to write at 7 before wide
 writes. It only shapes the records and says nothing about the right answers.
@@ -66,13 +52,11 @@ import sys
 RECORD_LENGTH = 16
 record = struct.Struct("<BBBBHHQ").pack  # kind, address, lines, zero byte, high lines, two zero bytes, data
 
-RESET, WRITE, READ, TICKS, NODE, EVENTS, SEND, BUFFER, HAND_OVER, GIVE_BACK, POKE = range(11)
+RESET, WRITE, READ, TICKS, NODE, EVENTS, SEND, BUFFER = range(8)
 SOFT_RESET, CSR, TIMESTAMP, FILTER, WAIT, OVERRUN, HIGH_ORDER, ENABLE, MODE, CLOCK = 0, 1, 2, 4, 5, 6, 7, 8, 10, 12
 SOURCE, COUNTER, SOFTWARE, SHADOW, TRACE, RESOURCE = 32, 64, 80, 80, 96, 112
 FIELD_REGISTERS = (ENABLE, MODE, CLOCK, MODE)
 MOST_64, MOST_32, MOST_PLACES = 2**64 - 1, 2**32 - 1, 1000
-# A saved set: 64 bytes of counters, 8 for each field register; and the size of the kept buffer.
-SAVED_COUNTERS, SAVED, MOST_BYTES = 64, 88, 100
 # A code times EVERY stands in all fields of a field register, times EVEN in those of the even counters.
 EVERY, EVEN = 0x1111111111111111, 0x0101010101010101
 # Lines bytes: mostly one line, now and then none or several.
@@ -91,16 +75,6 @@ TICK_COUNTS = [0, 1, 1, 1, 2, 3, 5, 9, 9, 10, 10, 11, 19, 20, 99, 100, 101, 109,
 NEAR_TOP = [MOST_32, MOST_32, MOST_32, MOST_32 - 1, MOST_32 - 2, MOST_32 - 9, MOST_32 - 99, 0]
 PLACES = [0, 1, 1, 2, 3, 4, 5, 7, 9, 13, 19, 20, 20, 21, 39, 40, 41, 64, 83, 84, 84, 85, 103, 104, 140, 160, 223,
           224, 225, 500, 999, MOST_PLACES]
-# Places for a set, mostly enough.
-SET_PLACES = [88, 88, 88, 88, 88, 88, 89, 91, 92, 95, 96, 99, 100, 100, 100, 87]
-# Codes that a field of Enable can hold, and one of Mode or Clock Select.
-ENABLE_CODES = [code for code in range(16) if code & 3]
-OTHER_CODES = [code for code in range(16) if code & 7]
-# Kinds of records that are close to legal ones: each kind, and five of them twice.
-NEAR_KINDS = [*range(11), WRITE, READ, TICKS, NODE, EVENTS]
-# Kinds with the least data that gets reply 9.
-TOO_LARGE = [(TICKS, 2**32), (NODE, 2**32), (EVENTS, 2**16), (BUFFER, MOST_PLACES + 1), (HAND_OVER, MOST_BYTES + 1),
-             (GIVE_BACK, MOST_BYTES + 1)]
 # Addresses of the mixed modes: those with a meaning often, all others too.
 KNOWN = [1, 1, 1, 2, 4, 5, 6, 7, 7, 8, 8, 10, 10, 12, 12, *range(32, 40), *range(64, 128)]
 ADDRESSES = KNOWN * 2 + list(range(256))
@@ -114,17 +88,16 @@ MODES = {
     "queue": (4, "triggers 16 sends 24 looks 10 settings 3 open_up 2 event 3 fields 1 register 1 bad 1"),
     "full": (3, "triggers 30 sends 16 looks 10 settings 3 open_up 2 event 3 bad 1"),
     "drained": (3, "triggers 10 sends 36 looks 10 settings 3 open_up 2 event 3 bad 1"),
-    "resets": (3, "triggers 16 sends 14 reset_in_sample 14 looks 10 settings 3 open_up 2 event 3 counter 2 handed 1"),
+    "resets": (3, "triggers 16 sends 14 reset_in_sample 14 looks 10 settings 3 open_up 2 event 3 counter 2"),
     "stamps": (2, "stamp_run 1 triggers 10 sends 12 looks 4 open_up 2 event 4"),
     "registers": (4, "fields 32 register 24 event 4 counter 2 one_trigger 2 sends 2 settings 2 bad 1"),
-    "counting": (4, "fields 10 event 28 counter 20 held 2 looks 2 bad 1 reset 1 handed 2"),
+    "counting": (4, "fields 10 event 28 counter 20 held 2 looks 2 bad 1 reset 1"),
     "clocks": (4, "clock_codes 8 event 50 counter 40 reset 2 held 1"),
-    "pairs": (7, "pair_codes 6 pair_change 42 odd_half 6 pair_event 9 held 2 handed 2"),
-    "bus": (3, "settings 20 bus_write 24 bus_read 24 event 2 open_up 1 any_access 1 handed 1"),
-    "shadows": (3, "held 6 one_trigger 4 sends 4 counter 28 event 10 open_up 6 fields 4 handed 3"),
-    "tasks": (7, "turn 12 give 14 hand 3 back 3 poke 3 whole_set 1 event 6 pair_event 3 task_looks 4 sends 3 bad 1"),
+    "pairs": (7, "pair_codes 5 pair_change 42 odd_half 6 pair_event 9 held 2"),
+    "bus": (3, "settings 20 bus_write 24 bus_read 24 event 2 open_up 1 any_access 1"),
+    "shadows": (3, "held 6 one_trigger 4 sends 4 counter 28 event 10 open_up 6 fields 4"),
     "sweep": (2, "sweep 7 sends 1"),
-    "mixed": (3, "any_access 34 event 12 sends 12 bad 2 reset 1 open_up 3 handed 3"),
+    "mixed": (3, "any_access 34 event 12 sends 12 bad 2 reset 1 open_up 3"),
     "near": (2, "near 1"),
     "noise": (1, "noise 1"),
 }
@@ -366,125 +339,19 @@ class Maker:
         self.put(NODE if number >> 40 & 1 else TICKS, TICK_COUNTS[number >> 41 & 31], 1 << odd)
         self.read(COUNTER + odd)
 
-    # ---- steps around hand-overs ----
-
-    def hand(self, number):
-        self.put(HAND_OVER, SET_PLACES[number & 15] if number & 0xF0 else (number >> 8) % SAVED)
-
-    def back(self, number):
-        self.put(GIVE_BACK, SET_PLACES[number & 15] if number & 0xF0 else (number >> 8) % SAVED)
-
-    def good_codes(self, place, number):
-        """Two codes that the field register with this byte of the set can hold."""
-        codes = ENABLE_CODES if place < SAVED_COUNTERS + 8 else OTHER_CODES
-        return codes[(number & 255) % len(codes)] | codes[(number >> 8 & 255) % len(codes)] << 4
-
-    def poke(self, number):
-        """One byte: mostly of a field register, often with a field that it can't hold; of a counter, or of the rest."""
-        what, number = number & 15, number >> 4
-        if what < 11:
-            place = SAVED_COUNTERS + number % 24
-            byte = self.good_codes(place, number >> 8)
-            if number >> 24 & 3 == 0 or number >> 29 & 7 == 0:
-                byte &= ~((3 if place < SAVED_COUNTERS + 8 else 7) << (number >> 26 & 4))
-        else:
-            place = number & 63 if what < 13 else SAVED + number % 12
-            byte = 0xFF if number >> 8 & 1 else number >> 9 & 255
-        self.put(POKE, address=place, lines=byte)
-
-    def whole_set(self, number):
-        """A hand-over, then another task's whole set, its counters often close to a carry, set byte by byte."""
-        self.hand(number)
-        for place in range(SAVED):
-            number = self.draw()
-            byte = self.good_codes(place, number) if place >= SAVED_COUNTERS else \
-                0xFF if number & 7 and place % 4 else number >> 8 & 255
-            self.put(POKE, address=place, lines=byte)
-        self.back(number >> 20)
-        for turn in range(number >> 40 & 3):
-            self.event(self.draw())
-        self.task_looks(self.draw())
-
-    def hold_resource(self, number):
-        """A Resource sample, so that the shadows are busy."""
-        self.open_up(number >> 8)
-        self.write(RESOURCE + (number & 15), number, 1 << (number >> 4 & 7))
-
-    def turn(self, number):
-        """A task's turn: codes, counts, a read with copy, its hand-over, often again once the shadows are free."""
-        (self.pair_codes, self.pair_codes, self.clock_codes, self.fields)[number & 3](self.draw())
-        for turn in range(1 + (number >> 2 & 3)):
-            (self.pair_event, self.pair_change, self.event, self.counter)[number >> 4 + 2 * turn & 3](self.draw())
-        if number >> 12 & 3:
-            self.read(COUNTER + (number >> 14 & 15))
-        if number >> 18 & 1:
-            self.write(HIGH_ORDER, number >> 24)
-        if number >> 19 & 7 < 3:
-            self.hold_resource(number >> 24)
-            self.hand(number >> 40)
-            self.put(BUFFER, PLACES[number >> 48 & 31] if number >> 53 & 1 else MOST_PLACES)
-        self.hand(number >> 32)
-        self.task_looks(self.draw())
-
-    def give(self, number):
-        """Some bytes set, or none, and a giving-back; then at once a hand-over, or events and looks and often one."""
-        for turn in range((0, 0, 1, 1, 1, 2, 2, 3)[number & 7]):
-            self.poke(self.draw())
-        if number >> 3 & 7 < 2:
-            self.hold_resource(number >> 24)
-        self.back(number >> 6)
-        if number >> 20 & 7 > 2:
-            for turn in range(1 + (number >> 23 & 1)):
-                (self.event, self.pair_event)[number >> 24 + turn & 1](self.draw())
-            self.task_looks(self.draw())
-        if number >> 20 & 7 < 5:
-            self.hand(number >> 32)
-
-    def task_looks(self, number):
-        """Looks after a hand-over or a giving-back: at 7 before other reads change it, field registers, counters."""
-        for address in (HIGH_ORDER, ENABLE, MODE, CLOCK, HIGH_ORDER):
-            if number & 1:
-                self.read(address)
-            number >>= 1
-        first = SHADOW if number & 1 else COUNTER
-        if number >> 1 & 7 == 0:
-            for i in range(16):
-                self.read(first + i)
-        elif number >> 1 & 1:
-            self.read(first + (number >> 4 & 15))
-            self.read(SHADOW + (number >> 8 & 15))
-
-    def handed(self, number):
-        """A hand-over in mid-count and mostly its set given back, an event and a read between; or only one of both."""
-        what = number & 7
-        if what != 1:
-            self.hand(number >> 3)
-        if what > 1:
-            self.event(self.draw())
-            self.counter(number >> 24)
-        if what != 0:
-            self.back(number >> 12)
-        if what == 2:
-            self.hand(number >> 32)
-        self.counter(number >> 40 | 1)
-
     # ---- steps around addresses and whole records ----
 
     def bad(self, number):
         """A record that gets reply 9 and must change nothing."""
         choice, some = number & 7, number >> 8
         if choice < 4:
-            # A kind above 10, or a good record but for one bit of its zero bytes; resets and sends are among them.
-            kind, bit = (11 + (some % 245 if number & 8 else 0), 0) if choice < 2 else \
-                ((number >> 3 & 31) % 11, 1 << some % 24)
+            # A kind above 7, or a good record but for one bit of its zero bytes; resets and sends are among them.
+            kind, bit = (8 + (some % 248 if number & 8 else 0), 0) if choice < 2 else (number >> 4 & 7, 1 << some % 24)
             address = KNOWN[(number >> 20) % len(KNOWN)]
-            data = number >> 40 & 255 if kind not in (HAND_OVER, GIVE_BACK) else SET_PLACES[number >> 40 & 15]
-            self.out += record(kind, address, 1, bit >> 16, 0, bit & 0xFFFF, data)
-        elif number >> 5 & 7 < len(TOO_LARGE):
-            kind, above = TOO_LARGE[number >> 5 & 7]
-            self.put(kind, (above, above + (some & 255), above << some % 32, number | 2**63)[number >> 3 & 3])
+            self.out += record(kind, address, 1, bit >> 16, 0, bit & 0xFFFF, number >> 40 & 255)
         else:
-            self.put(POKE, address=MOST_BYTES + some % (256 - MOST_BYTES), lines=some >> 8 & 255)
+            kind, above = ((TICKS, 2**32), (NODE, 2**32), (EVENTS, 2**16), (BUFFER, MOST_PLACES + 1))[choice & 3]
+            self.put(kind, (above, above + (some & 255), above << some % 32, number | 2**63)[number >> 3 & 3])
 
     def any_access(self, number):
         address = ADDRESSES[number & 511]
@@ -509,20 +376,17 @@ class Maker:
         self.open_up(number >> 24)
 
     def near(self, number):
-        kind = NEAR_KINDS[number & 15] if number & 0xF0 else number >> 8 & 255
+        kind = number & 7 if number & 0x78 else number >> 8 & 255
         if kind == RESET and number & 0xF000:
             kind = SEND
         bit = 1 << (number >> 32) % 24 if number >> 60 == 0 else 0
-        data = self.all_sorts_of_data()
-        if kind in (HAND_OVER, GIVE_BACK) and number >> 56 & 3:
-            data = 80 + (data & 31)
         self.out += record(kind, ADDRESSES[number >> 16 & 511], LINES[number >> 26 & 63], bit >> 16,
-                           number >> 40 & 0xFFFF, bit & 0xFFFF, data)
+                           number >> 40 & 0xFFFF, bit & 0xFFFF, self.all_sorts_of_data())
 
     def noise(self, number):
         data = self.draw()
         if number >> 63:
-            number &= 0x0000FFFF00FFFF0F
+            number &= 0x0000FFFF00FFFF07
             data >>= data & 63
         self.out += struct.pack("<QQ", number, data)
 
@@ -536,11 +400,11 @@ class Maker:
             kind, address = out[start], out[start + 1]
             if kind not in (TICKS, NODE):
                 out[start + 4:start + 6] = (number >> 16 & 0xFFFF).to_bytes(2, "little")
-            if kind != POKE and (kind != WRITE or not TRACE <= address < 128):
+            if kind != WRITE or not TRACE <= address < 128:
                 out[start + 2] = number & 255
-            if kind not in (WRITE, READ, POKE):
+            if kind not in (WRITE, READ):
                 out[start + 1] = number >> 8 & 255
-            if kind in (RESET, WRITE, READ, SEND, POKE):
+            if kind in (RESET, WRITE, READ, SEND):
                 heeded = HEEDED.get(address, 0) if kind == WRITE else 0
                 data = int.from_bytes(out[start + 8:start + 16], "little") | self.draw() & ~heeded
                 out[start + 8:start + 16] = data.to_bytes(8, "little")

@@ -13,8 +13,7 @@ sys.dont_write_bytecode = True
 from generate2 import generate  # noqa: E402
 
 COUNT = 32768
-KINDS = ("hardware reset", "write", "read", "Timestamp ticks", "node ticks", "external events", "send", "buffer send",
-         "hand-over", "giving-back", "byte set")
+KINDS = ("hardware reset", "write", "read", "Timestamp ticks", "node ticks", "external events", "send", "buffer send")
 FIELDS = {8: "Enable", 10: "Mode", 12: "Clock Select"}
 CLOCKS = ("", "node", "tenth", "hundredth", "Timestamp", "node", "tenth", "hundredth")  # by Clock Select's codes
 EVENTS = ("software", "external", *CLOCKS[1:5], *["gated " + clock for clock in CLOCKS[1:5]])
@@ -25,14 +24,10 @@ checks = []  # whether each is good, and what it is about
 class Follower:
     """What a chip would hold, as far as the counts need it; replies are the twin's."""
 
-    def __init__(self, time=0, kept=None):
-        self.time, self.phase, self.high, self.narrow = time, 0, 0, False
-        self.counter, self.shadow = [0] * 16, [0] * 16
+    def __init__(self, time=0):
+        self.time, self.phase, self.high, self.narrow, self.counter = time, 0, 0, False, [0] * 16
         self.field = {8: [1] * 16, 10: [4] * 16, 12: [4] * 16}
         self.busy = self.inside = False  # a Resource sample held, no word sent since; in the middle of a sample
-        self.kept, self.kept_over_reset = kept or bytearray(100), kept is not None  # the program's buffer, which stays
-        self.last = None  # what the last record did, if it handed over or gave back
-        self.zeroed = set()  # what a hand-over made zero, as long as nothing has changed it
 
     def event(self, i, kind, amount=1):  # counter i's own Mode and Clock Select choose it
         paired = self.field[10][i & 14] & 8
@@ -69,55 +64,11 @@ class Follower:
                 self.counter[i] = 0
             self.field[address][i] = code if heeded[i] else self.field[address][i]
 
-    def hand_over(self, places, reply, digits):
-        seen["12 before 13"] += reply == 12 and places < 88
-        seen["hand-over while busy, reply 12"] += self.busy and reply == 12
-        seen["wrong reply"] += reply != 12 if self.busy else reply not in (12, 13 if places < 88 else 0)
-        if reply:
-            return
-        codes = [code for address in FIELDS for code in self.field[address]]
-        self.kept[:88] = struct.pack("<16I", *self.counter) + bytes(
-            low | high << 4 for low, high in zip(codes[::2], codes[1::2]))
-        seen["wrong set"] += digits != [self.kept[:88].hex().encode()]
-        seen["hand-over right after " + str(self.last)] += 1
-        pairs = [i for i in range(0, 16, 2) if self.field[10][i] & 8]
-        seen["hand-over while a pair counted"] += any(self.field[8][i] & 2 and self.counter[i] for i in pairs)
-        seen["hand-over, a pair's upper half in use"] += any(self.counter[i + 1] for i in pairs)
-        seen["hand-over, Enable's upper bits set"] += any(code & 12 for code in self.field[8])
-        self.zeroed = {name for name, number in (("shadows", any(self.shadow)), ("High Order", self.high)) if number}
-        self.counter, self.shadow, self.high, self.field[8] = [0] * 16, [0] * 16, 0, [1] * 16
-        self.kept_over_reset = False
-
-    def give_back(self, size, reply):
-        codes = [byte >> shift & 15 for byte in self.kept[64:88] for shift in (0, 4)]
-        bad = [code & (3 if i < 16 else 7) == 0 for i, code in enumerate(codes)]
-        seen["13 before 14"] += reply == 13 and any(bad)
-        seen["wrong reply"] += reply != (13 if size < 88 else 14 if any(bad) else 0)
-        if reply == 14:
-            alone = [name for i, name in enumerate(FIELDS.values()) if sum(bad) == sum(bad[16 * i:16 * i + 16])]
-            seen.update("14 by %s alone" % name for name in alone)
-            seen["14 by one field"] += sum(bad) == 1
-        if reply:
-            return
-        seen["giving-back while busy, reply 0"] += self.busy
-        seen["giving-back after a reset"] += self.kept_over_reset
-        before = self.field[10]
-        self.counter = list(struct.unpack("<16I", self.kept[:64]))
-        self.field = {8: codes[:16], 10: codes[16:32], 12: codes[32:]}
-        for i in range(0, 16, 2):
-            if (before[i] ^ codes[16 + i]) & 8:
-                seen["giving-back pairs" if before[i] & 8 == 0 else "giving-back parts a pair"] += 1
-        seen["giving-back of xx11 and a count"] += any(code & 3 == 3 and number for code, number in zip(
-            codes, self.counter))
-        seen["giving-back, shadows in use"] += any(self.shadow)
-        seen["giving-back, High Order in use"] += self.high > 0
-
     def write(self, address, number, reply):
         if address == 1 and number & 0xC000:
             self.narrow = not number & 0x8000
         elif address == 7:
             self.high = number % 2**32
-            self.zeroed.discard("High Order")
         elif address in FIELDS:
             full = number % 2**32 | self.high << 32 if self.narrow else number
             seen["wide write in 32-bit mode, upper halves differ"] += full != number
@@ -130,62 +81,36 @@ class Follower:
         elif 96 <= address < 128:
             seen["%s trigger, reply %d" % ("Resource" if address >= 112 else "Trace", reply)] += 1
             seen["sample with a Timestamp above 2^40"] += reply == 0 and self.time >> 40 > 0
-            if address >= 112 and reply == 0:
-                self.busy, self.shadow = True, list(self.counter)
-                self.zeroed.discard("shadows")
+            self.busy = self.busy or address >= 112 and reply == 0
 
-    def read(self, address, reply, value):
-        seen["read of 7 in %d-bit mode" % (32 if self.narrow else 64)] += address == 7
-        seen["wrong High Order"] += address == 7 and value % 2**32 != self.high
-        seen["read of 7 after a hand-over zeroed it"] += address == 7 and "High Order" in self.zeroed
-        if 64 <= address < 96:
-            seen["read at %d, reply %d%s" % (address & 80, reply, ", busy" if self.busy else "")] += 1
-            if address < 80 and reply == 0:
-                self.shadow = list(self.counter)
-                self.zeroed.discard("shadows")
-            seen["wrong count"] += reply == 0 and value % 2**32 != self.shadow[address % 16]
-            seen["read without copy after a hand-over zeroed the shadows"] += "shadows" in self.zeroed
-        if reply == 0 and address != 7:
-            self.high = value >> 32
-            self.zeroed.discard("High Order")
-
-    def follow(self, data, reply, value, *rest):
+    def follow(self, data, reply, value, *words):
         kind, address, lines, zero, high, zeros, number = struct.unpack("<BBBBHHQ", data)
-        reply, value = int(reply), int(value)
         seen["reply", reply] += 1
         if reply == 9:
-            seen["bad: " + ("kind" if kind > 10 else "zero bytes" if zero or zeros else KINDS[kind])] += 1
-            seen["zero bytes", kind] += zero > 0 or zeros > 0
+            seen["bad: " + ("kind" if kind > 7 else "zero bytes" if zero or zeros else KINDS[kind])] += 1
             return
         seen.update([KINDS[kind], (KINDS[kind], address)])
         seen["high lines where they are ignored"] += kind not in (3, 4) and high > 0
         if kind == 0 or kind == 1 and address == 0:
             seen["%s, reset in a sample" % KINDS[kind]] += self.inside
-            self.__init__(self.time if kind == 1 else 0, self.kept)
+            self.__init__(self.time if kind == 1 else 0)
         elif kind == 1:
             self.write(address, number, reply)
         elif kind == 2:
-            self.read(address, reply, value)
+            seen["read of 7 in %d-bit mode" % (32 if self.narrow else 64)] += address == 7
+            if 64 <= address < 96:
+                seen["read at %d, reply %d%s" % (address & 80, reply, ", busy" if self.busy else "")] += 1
+                seen["wrong count"] += address < 80 and reply == 0 and value % 2**32 != self.counter[address - 64]
+            self.high = value >> 32 if reply == 0 and address != 7 else self.high
         elif kind in (3, 4):
             self.ticks(kind, number, high)
         elif kind == 5:
             for i in [i for i in range(16) if number >> i & 1 and self.field[10][i] & 7 == 4]:
                 self.event(i, "external")
-        elif kind == 10:
-            seen["a byte behind the set"] += address > 87
-            seen["unneeded data where it is ignored"] += number > 0
-            self.kept[address], self.kept_over_reset = lines, False
-        elif kind > 7:
-            seen["%s, reply %d" % (KINDS[kind], reply)] += 1
-            seen["%s in 32-bit mode" % KINDS[kind]] += reply == 0 and self.narrow
-            seen["odd bits, " + KINDS[kind]] += address > 0 and lines > 0 and high > 0
-            seen["%s of %d" % (KINDS[kind], number)] += reply == 0
-            self.hand_over(number, reply, list(rest)) if kind == 8 else self.give_back(number, reply)
         else:
             seen.update([("places", number), ("words of a buffer send", value)] if kind == 7 else [])
-            if reply == 0 and (kind == 6 or rest):
-                self.busy, self.inside = False, (value if kind == 6 else int(rest[-1])) < 512
-        self.last = KINDS[kind] if kind in (8, 9) and reply == 0 else None
+            if reply == 0 and (kind == 6 or words):
+                self.busy, self.inside = False, (value if kind == 6 else words[-1]) < 512
 
 
 with tempfile.TemporaryDirectory() as folder:
@@ -200,40 +125,25 @@ with tempfile.TemporaryDirectory() as folder:
                    (b"".join(generate(seed, COUNT + 999)).startswith(whole[:16 * COUNT]), "the same beginning again")]
         follower = Follower()
         for place in range(COUNT):
-            follower.follow(whole[16 * place:16 * place + 16], *lines[place].split())
+            follower.follow(whole[16 * place:16 * place + 16], *map(int, lines[place].split()))
 
-often = [("reply", number) for number in range(15)] + list(KINDS) + [
+often = [("reply", number) for number in range(12)] + list(KINDS) + [
     "paired in mid-count", "parted in mid-count", "one half of a pair reset", "one half of a pair written",
     "wide write in 32-bit mode, upper halves differ", "read of 7 in 32-bit mode", "read of 7 in 64-bit mode",
     "hardware reset, reset in a sample", "write, reset in a sample", "sample with a Timestamp above 2^40",
     "high lines where they are ignored", "read at 64, reply 0", "read at 80, reply 0",
     *["read at " + case + ", busy" for case in ("64, reply 10", "64, reply 11", "80, reply 0")]]
-often += ["bad: " + name for name in ("kind", "zero bytes", *KINDS[3:6], *KINDS[7:])]
-often += ["hand-over, reply %d" % reply for reply in (0, 12, 13)]
-often += ["giving-back, reply %d" % reply for reply in (0, 13, 14)] + [
-    "hand-over while a pair counted", "hand-over, a pair's upper half in use", "hand-over, Enable's upper bits set",
-    "hand-over right after giving-back", "giving-back pairs", "giving-back parts a pair",
-    "giving-back of xx11 and a count", "hand-over while busy, reply 12", "giving-back while busy, reply 0",
-    "giving-back, shadows in use", "giving-back, High Order in use", "14 by one field",
-    "read of 7 after a hand-over zeroed it", "read without copy after a hand-over zeroed the shadows",
-    "hand-over of 88", "giving-back of 88", "hand-over of 100", "giving-back of 100", "a byte behind the set",
-    "unneeded data where it is ignored"]
+often += ["bad: " + name for name in ("kind", "zero bytes", *KINDS[3:6], KINDS[7])]
 often += ["%s trigger, reply %d" % (name, reply) for name in ("Trace", "Resource") for reply in (0, 4, 6, 7, 8, 10)]
 often += [name + " with one field among others that change nothing" for name in FIELDS.values()]
 often += [("places", n) for n in (0, 1, 20, 84, 1000)] + [("words of a buffer send", n) for n in (0, 1, 20, 84)]
 often += [what + kind for what in ("paired: over 2^32, ", "paired odd counter, ") for kind in EVENTS]
 seldom = [what + kind for what in ("paired: over 2^64, ", "single: over 2^32, ") for kind in EVENTS]
 seldom += [(way, address) for way in ("write", "read") for address in range(256)]
-seldom += [("byte set", address) for address in range(100)] + [("zero bytes", kind) for kind in range(11)] + [
-    "hand-over right after hand-over", "giving-back after a reset", "12 before 13", "13 before 14",
-    *["14 by %s alone" % name for name in FIELDS.values()],
-    *[what % kind for what in ("%s in 32-bit mode", "odd bits, %s") for kind in KINDS[8:10]],
-    *["%s of %d" % (kind, places) for kind in KINDS[8:10] for places in (89, 91, 92, 95, 96, 99)]]
 seldom += [(name, i, code) for name in FIELDS.values() for i in range(16) for code in range(16)]
 for name, least in [(name, 100) for name in often] + [(name, 10) for name in seldom]:
     checks.append((seen[name] >= least, "%s: seen %d times, not %d" % (name, seen[name], least)))
-checks += [(seen[name] == 0, "the twin answers as followed here: " + name) for name in (
-    "wrong count", "wrong High Order", "wrong set", "wrong reply")]
+checks.append((seen["wrong count"] == 0, "the twin's counters are as followed here"))
 if not all(good for good, _ in checks):
     sys.exit("\n".join("FAILED: " + about for good, about in checks if not good))
 print("generate2: %d checks passed" % len(checks))

@@ -22,10 +22,6 @@ Of WRONG-PROGRAMS:
   edit or version that tries a wrong program, or in the closing paragraph; and
   nothing else stands there.
 
-Of docs/SHARED.md:
-- The first column of its table has each field of `Shared`, those of `Control`
-  in the place of `control`, in one row, and nothing else.
-
 Of the files themselves:
 - Every old text of an edit, in the gate or in tools/edits, or of a version
   occurs as often as it has to in the file that it changes.
@@ -44,7 +40,6 @@ from idle import VERSIONS
 ROOT = os.path.dirname(os.path.dirname(os.path.abspath(__file__)))
 PAGE = "docs/STATEMENTS.md"
 PROGRAMS = "docs/WRONG-PROGRAMS.md"
-SHARED = "docs/SHARED.md"
 MOST_WORDS = 5100
 EDITS = "## Edits that must be refused"
 UNTRIED = "No wrong program was tried"
@@ -273,16 +268,6 @@ def check_public(programs, public, known):
     return faults
 
 
-def check_shared():
-    """The parts that a hand-over leaves without one row on their page, and rows of other parts."""
-    fields = re.findall(r"^  pub (\w+) :", text_of("crates/chip2/specs/Shared.antt"), re.M)
-    control = re.search(r"pub struct Control \{(.*?)\n\}", text_of("crates/control/src/control.rt"), re.S).group(1)
-    parts = [field for field in fields if field != "control"] + ["control." + name for name in re.findall(r"pub (\w+):", control)]
-    stated = [name for row in rows_of(text_of(SHARED)) for name in backticked(row[0]) if name != "Shared"]
-    faults = [f"{SHARED}: {name} is in {stated.count(name)} rows" for name in parts if stated.count(name) != 1]
-    return faults + [f"{SHARED}: `{name}` is no shared part" for name in stated if name not in parts]
-
-
 def check_asks(inside):
     """The public functions, those of programs too, that ask something of their caller."""
     faults = []
@@ -306,7 +291,7 @@ def main():
     more, others = check_names(PROGRAMS, programs, declared, paths, tried)
     words, long = check_words(page)
     faults += others + long + check_sizes(page) + check_edits(page, known, inside) + check_versions(page)
-    faults += check_public(programs, public, tried) + check_asks(inside) + check_outside() + check_shared()
+    faults += check_public(programs, public, tried) + check_asks(inside) + check_outside()
     for fault in faults:
         print(fault)
     if faults:

@@ -28,10 +28,6 @@ const LOST: u8 = 8;
 const BAD_RECORD: u8 = 9;
 const TRY_AGAIN: u8 = 10;
 const SHADOWS_BUSY: u8 = 11;
-/// [Wish 10] 12 and 13 for a hand-over, 13 and 14 for a giving-back.
-const NO_HAND_OVER: u8 = 12;
-const BUFFER_TOO_SHORT: u8 = 13;
-const FIELD_NEVER_HELD: u8 = 14;
 
 /// Reply 0 with a value.
 fn done(value: u64) -> Reply {
@@ -94,15 +90,11 @@ impl Sample {
 
     /// [Sample and words] A Resource sample adds counters 0 to 15.
     fn put_counters(&mut self, counters: &[u32; COUNTERS]) {
-        put_low_byte_first(&mut self.bytes[TRACE_BYTES..], counters);
+        let places = self.bytes[TRACE_BYTES..].chunks_exact_mut(4);
+        for (place, counter) in places.zip(counters) {
+            place.copy_from_slice(&counter.to_le_bytes());
+        }
         self.length = RESOURCE_BYTES;
-    }
-}
-
-/// Counters 0 to 15, four bytes each.
-fn put_low_byte_first(bytes: &mut [u8], counters: &[u32; COUNTERS]) {
-    for (place, counter) in bytes.chunks_exact_mut(4).zip(counters) {
-        place.copy_from_slice(&counter.to_le_bytes());
     }
 }
 
@@ -198,21 +190,10 @@ fn set_of_lines(mask: u16) -> Set {
     SET_OF_BYTE[low as usize] as Set | (SET_OF_BYTE[high as usize] as Set) << 32
 }
 
-/// [B7] The counters whose field of Enable is not xx00, which changes nothing.
-fn named_by_enable(data: u64) -> Set {
-    (data | data >> 1) & EVERY
-}
-
-/// [B5], [B6] The counters whose field of Mode or Clock Select is not x000,
-/// which changes nothing.
-fn named_by_code(data: u64) -> Set {
-    (data | data >> 1 | data >> 2) & EVERY
-}
-
-/// Writes the fields of the named counters, all four bits of each, and leaves
-/// the others.
-fn write_fields(register: &mut u64, data: u64, named: Set) {
-    let bits = named * 15;
+/// Writes the fields of a register for which `named` has bit 4i set, all four
+/// bits of each, and leaves the others.
+fn write_fields(register: &mut u64, data: u64, named: u64) {
+    let bits = (named & EVERY) * 15;
     *register = *register & !bits | data & bits;
 }
 
@@ -227,9 +208,6 @@ const ALL_EXTERNAL_SINGLE: u64 = 0x4444_4444_4444_4444;
 const ALL_TIMESTAMP_CLOCK: u64 = 0x4444_4444_4444_4444;
 /// [B4] The High Order register's address.
 const HIGH_ORDER: u8 = 7;
-/// [Wish 10] A saved set: sixteen counters of 4 bytes, three registers of 8.
-const SAVED_COUNTERS: usize = 4 * COUNTERS;
-const SAVED_BYTES: usize = SAVED_COUNTERS + 3 * 8;
 
 /// [II: Value of a read] A value with ones above the register's width.
 fn ones_above(width: u32, value: u64) -> u64 {
@@ -320,8 +298,9 @@ impl Chip {
             6 => self.clear_overrun(),
             HIGH_ORDER => self.high_order = data as u32,
             8 => self.write_enable(data),
-            10 => write_fields(&mut self.mode, data, named_by_code(data)),
-            12 => write_fields(&mut self.clock_select, data, named_by_code(data)),
+            // [B5], [B6] Fields x000 change nothing.
+            10 => write_fields(&mut self.mode, data, data | data >> 1 | data >> 2),
+            12 => write_fields(&mut self.clock_select, data, data | data >> 1 | data >> 2),
             32..=39 => self.sources[address as usize - 32] = data as u32,
             64..=79 => self.counters[address as usize - 64] = data as u32,
             80..=95 => {
@@ -396,7 +375,7 @@ impl Chip {
     /// [B7] Fields xx00 change nothing; xx11 also sets the counter to 0, and
     /// of a pair only the half that it names.
     fn write_enable(&mut self, data: u64) {
-        write_fields(&mut self.enable, data, named_by_enable(data));
+        write_fields(&mut self.enable, data, data | data >> 1);
         let mut resets = data & data >> 1 & EVERY;
         while resets != 0 {
             self.counters[resets.trailing_zeros() as usize / 4] = 0;
@@ -571,60 +550,6 @@ impl Chip {
         }
         sent
     }
-
-    // ---- hand-over between tasks ----
-
-    /// [Wish 10], [II: Hand-over and giving back] Saves the counters, Enable,
-    /// Mode and Clock Select into the front of a lent buffer. Then counters,
-    /// shadows and the High Order register are zero and all counters disabled;
-    /// Mode, Clock Select and all other parts stay. Tried in the order 12, 13,
-    /// and refused it changes neither chip nor buffer.
-    fn hand_over(&mut self, buffer: &mut [u8]) -> Reply {
-        if self.queue.resource_held {
-            return reply(NO_HAND_OVER);
-        }
-        let Some(saved) = buffer.first_chunk_mut::<SAVED_BYTES>() else {
-            return reply(BUFFER_TOO_SHORT);
-        };
-        let (counters, registers) = saved.split_at_mut(SAVED_COUNTERS);
-        put_low_byte_first(counters, &self.counters);
-        registers[..8].copy_from_slice(&self.enable.to_le_bytes());
-        registers[8..16].copy_from_slice(&self.mode.to_le_bytes());
-        registers[16..].copy_from_slice(&self.clock_select.to_le_bytes());
-
-        self.counters = [0; COUNTERS];
-        self.shadows = [0; COUNTERS];
-        self.high_order = 0;
-        self.enable = ALL_DISABLED;
-        done(0)
-    }
-
-    /// [Wish 10], [II: Hand-over and giving back] The counters and their three
-    /// registers hold what was saved; Enable's xx11 resets nothing here.
-    /// Shadows and the High Order register stay, and busy shadows don't hold
-    /// it up. Tried in the order 13, 14: a field that a write leaves alone is
-    /// one that no operation makes a register hold.
-    fn give_back(&mut self, buffer: &[u8]) -> Reply {
-        let Some(saved) = buffer.first_chunk::<SAVED_BYTES>() else {
-            return reply(BUFFER_TOO_SHORT);
-        };
-        let (counters, registers) = saved.split_at(SAVED_COUNTERS);
-        let number = |place: usize| {
-            let bytes = registers[place..place + 8].try_into();
-            u64::from_le_bytes(bytes.expect("a register has eight bytes"))
-        };
-        let (enable, mode, clock_select) = (number(0), number(8), number(16));
-        if named_by_enable(enable) & named_by_code(mode) & named_by_code(clock_select) != EVERY {
-            return reply(FIELD_NEVER_HELD);
-        }
-        for (counter, bytes) in self.counters.iter_mut().zip(counters.chunks_exact(4)) {
-            *counter = u32::from_le_bytes(bytes.try_into().expect("a counter has four bytes"));
-        }
-        self.enable = enable;
-        self.mode = mode;
-        self.clock_select = clock_select;
-        done(0)
-    }
 }
 
 // ---------------------------------------------------------------- records
@@ -632,37 +557,20 @@ impl Chip {
 const RECORD: usize = 16;
 /// The most places that a record may give a buffer send.
 const MOST_WORDS: usize = 1000;
-/// The most places that a record may give a hand-over or a giving-back.
-const MOST_BYTES: usize = 100;
-
-/// What the program keeps beside the chip, over resets too.
-struct Buffers {
-    words: [u16; MOST_WORDS],
-    saved: [u8; MOST_BYTES],
-}
-
-/// What follows reply and value on a line.
-enum Rest<'a> {
-    Nothing,
-    /// The words of a buffer send.
-    Words(&'a [u16]),
-    /// The bytes that a hand-over saved.
-    Saved(&'a [u8]),
-}
 
 /// One record: kind, address, lines, a zero byte, the mask of high lines, two
-/// zero bytes, data. A bad record reaches neither chip nor buffers. Gives the
-/// reply, and what follows it.
+/// zero bytes, data. A bad record doesn't reach the chip. Gives the reply, and
+/// the words of a buffer send.
 fn run_record<'a>(
     chip: &mut Chip,
     record: &[u8; RECORD],
-    buffers: &'a mut Buffers,
-) -> (Reply, Rest<'a>) {
+    buffer: &'a mut [u16; MOST_WORDS],
+) -> (Reply, &'a [u16]) {
     let [kind, address, lines, zero_3, high_0, high_1, zero_6, zero_7, data @ ..] = *record;
     let high = u16::from_le_bytes([high_0, high_1]);
     let data = u64::from_le_bytes(data);
     if zero_3 | zero_6 | zero_7 != 0 {
-        return (reply(BAD_RECORD), Rest::Nothing);
+        return (reply(BAD_RECORD), &[]);
     }
     let answer = match kind {
         0 => chip.hardware_reset(),
@@ -673,33 +581,20 @@ fn run_record<'a>(
         5 if data <= u16::MAX as u64 => chip.external_events(data as u16),
         6 => chip.send(),
         7 if data <= MOST_WORDS as u64 => {
-            let sent = chip.send_into(&mut buffers.words[..data as usize]);
-            return (done(sent as u64), Rest::Words(&buffers.words[..sent]));
-        }
-        8 if data <= MOST_BYTES as u64 => {
-            let answer = chip.hand_over(&mut buffers.saved[..data as usize]);
-            if answer.number == 0 {
-                return (answer, Rest::Saved(&buffers.saved[..SAVED_BYTES]));
-            }
-            answer
-        }
-        9 if data <= MOST_BYTES as u64 => chip.give_back(&buffers.saved[..data as usize]),
-        10 if (address as usize) < MOST_BYTES => {
-            buffers.saved[address as usize] = lines;
-            done(0)
+            let sent = chip.send_into(&mut buffer[..data as usize]);
+            return (done(sent as u64), &buffer[..sent]);
         }
         _ => reply(BAD_RECORD),
     };
-    (answer, Rest::Nothing)
+    (answer, &[])
 }
 
 const BLOCK: usize = 64 * 1024;
-/// Room for reply and value: "0 18446744073709551615\n" has 23 bytes, and no
-/// line has more than two digits, a space, twenty digits and a newline.
+/// Room for any line without words: "0 18446744073709551615\n" has 23 bytes,
+/// and no line has more than two digits, a space, twenty digits and a newline.
 const LINE: usize = 24;
 /// Room for a word on the line: a space and at most four digits.
 const WORD: usize = 5;
-const HEX_DIGITS: &[u8; 16] = b"0123456789abcdef";
 
 /// Output lines gathered into large blocks.
 struct Lines<W: Write> {
@@ -718,16 +613,11 @@ impl<W: Write> Lines<W> {
         self.used = text.len();
     }
 
-    /// Reply, space, value in decimal; a space and a number for each word, or
-    /// a space and two hexadecimal digits for each byte; newline.
+    /// Reply, space, value in decimal, a space and a number for each word,
+    /// newline.
     #[inline(always)]
-    fn put(&mut self, reply: Reply, rest: Rest) -> io::Result<()> {
-        let room = LINE
-            + match rest {
-                Rest::Nothing => 0,
-                Rest::Words(words) => WORD * words.len(),
-                Rest::Saved(bytes) => 1 + 2 * bytes.len(),
-            };
+    fn put(&mut self, reply: Reply, words: &[u16]) -> io::Result<()> {
+        let room = LINE + WORD * words.len();
         if BLOCK - self.used < room {
             self.pass_on()?;
         }
@@ -735,23 +625,9 @@ impl<W: Write> Lines<W> {
         let mut at = put_decimal(line, 0, reply.number as u64);
         line[at] = b' ';
         at = put_decimal(line, at + 1, reply.value);
-        match rest {
-            Rest::Nothing => {}
-            Rest::Words(words) => {
-                for word in words {
-                    line[at] = b' ';
-                    at = put_decimal(line, at + 1, *word as u64);
-                }
-            }
-            Rest::Saved(bytes) => {
-                line[at] = b' ';
-                at += 1;
-                for byte in bytes {
-                    line[at] = HEX_DIGITS[*byte as usize >> 4];
-                    line[at + 1] = HEX_DIGITS[*byte as usize & 15];
-                    at += 2;
-                }
-            }
+        for word in words {
+            line[at] = b' ';
+            at = put_decimal(line, at + 1, *word as u64);
         }
         line[at] = b'\n';
         self.used += at + 1;
@@ -797,7 +673,7 @@ fn main() -> io::Result<()> {
     lines.heading(b"answer value\n");
 
     let mut chip = Chip::new();
-    let mut buffers = Buffers { words: [0; MOST_WORDS], saved: [0; MOST_BYTES] };
+    let mut buffer = [0; MOST_WORDS];
     let mut block = vec![0u8; BLOCK];
     // Bytes at the front of the block: a record begun in an earlier read.
     let mut begun = 0;
@@ -811,38 +687,14 @@ fn main() -> io::Result<()> {
         begun = records.remainder().len();
         for record in records {
             let record = record.try_into().expect("chunks have the record's length");
-            let (reply, rest) = run_record(&mut chip, record, &mut buffers);
-            lines.put(reply, rest)?;
+            let (reply, words) = run_record(&mut chip, record, &mut buffer);
+            lines.put(reply, words)?;
         }
         block.copy_within(filled - begun..filled, 0);
     }
     // A last part of a record gives reply 9.
     if begun > 0 {
-        lines.put(reply(BAD_RECORD), Rest::Nothing)?;
+        lines.put(reply(BAD_RECORD), &[])?;
     }
     lines.finish()
-}
-
-#[cfg(test)]
-mod tests {
-    use super::*;
-
-    /// [Wish 10] "the rest untouched", and all of it if refused: no record
-    /// shows the bytes behind the set, so this looks at them from inside.
-    #[test]
-    fn a_hand_over_writes_its_bytes_alone() {
-        for places in 0..=MOST_BYTES {
-            for busy in [false, true] {
-                let mut chip = Chip::new();
-                chip.counters = [0x4321_1234; COUNTERS];
-                chip.queue.resource_held = busy;
-                let mut buffer = [0xA5; MOST_BYTES];
-                let answer = chip.hand_over(&mut buffer[..places]);
-                let written = if answer.number == 0 { SAVED_BYTES } else { 0 };
-                assert_eq!(answer.number == 0, places >= 88 && !busy);
-                assert!(buffer[..written].iter().all(|byte| *byte != 0xA5));
-                assert!(buffer[written..].iter().all(|byte| *byte == 0xA5));
-            }
-        }
-    }
 }

@@ -28,9 +28,9 @@ def write(address, data=0, lines=0):
     return record(1, address, lines, data)
 
 
-read, poke = functools.partial(record, 2), functools.partial(record, 10)
-stamp, node, external, buffer, hand, back = (
-    lambda number, high=0, kind=kind: record(kind, 0, 0, number, high) for kind in (3, 4, 5, 7, 8, 9))
+read = functools.partial(record, 2)
+stamp, node, external, buffer = (
+    lambda number, high=0, kind=kind: record(kind, 0, 0, number, high) for kind in (3, 4, 5, 7))
 HARD, SOFT, SEND = record(0), write(0), record(6)
 ON = [write(1, 9), write(4, 0xFFFF)]  # sampling, discard, every level
 
@@ -51,12 +51,11 @@ def raw(data):
 
 
 def run(records):
-    """The lines for a list of records, as tuples: reply, value, and words or the digits of a saved set."""
+    """The lines for a list of records, as tuples of numbers: reply, value, words."""
     output = raw(b"".join(records))
     if not output.startswith(HEADING) or not output.endswith(b"\n"):
         return [output]
-    return [tuple(part.decode() if len(part) == 176 else int(part) for part in line.split(b" "))
-            for line in output[len(HEADING):].split(b"\n")[:-1]]
+    return [tuple(map(int, line.split(b" "))) for line in output[len(HEADING):].split(b"\n")[:-1]]
 
 
 def play(name, steps):
@@ -110,21 +109,6 @@ def whole(stream):
 
 
 csr = functools.partial(sees, 1, width=64)
-
-
-def saved(counters, enable, mode, clock):
-    """The 88 bytes of a set."""
-    return struct.pack("<16I", *counters) + struct.pack("<3Q", enable, mode, clock)
-
-
-def hands(*those, places=88):
-    """A hand-over that saves this set."""
-    return (hand(places), (0, 0, saved(*those).hex()))
-
-
-def poked(*those):
-    """Writes this set into the kept buffer, byte by byte."""
-    return [poke(place, byte) for place, byte in enumerate(saved(*those))]
 
 
 def registers():
@@ -323,176 +307,17 @@ def samples():
         play("pieces of %d" % size, taken + [(buffer(size), (0, len(piece), *piece)) for piece in pieces] + [(SEND, 5)])
 
 
-# A set whose bytes 0 to 63 are 1 to 64, with all codes that a field can hold.
-NUMBERS = [0x04030201 + i * 0x04040404 for i in range(16)]
-CODES = (0xFEDBA9765321FEB7, 0xFEDCBA9765432112, 0x12345679ABCDEF56)
-TASK = codes(*CODES) + [write(64 + i, number) for i, number in enumerate(NUMBERS)]
-DEFAULTS = (EVERY, 4 * EVERY, 4 * EVERY)
-
-
-def holds(high, codes, shadows, counters):
-    """Reads of the parts that hand-overs and givings-back change; that of 7 before others change it."""
-    return [sees(7, high), *[sees(address, number, 64) for address, number in zip((8, 10, 12), codes)],
-            *counts(*shadows, first=80), *counts(*counters)]
-
-
-def hand_over():
-    play("the bytes of a set", TASK + [(hand(88), (0, 0, (
-        "0102030405060708090a0b0c0d0e0f10" "1112131415161718191a1b1c1d1e1f20" "2122232425262728292a2b2c2d2e2f30"
-        "3132333435363738393a3b3c3d3e3f40" "b7fe215376a9dbfe" "1221436597badcfe" "56efcdab79563412")))])
-    play("a fresh chip's set", [(hand(88), (0, 0, "00" * 64 + "11" * 8 + "44" * 16)), back(88), *holds(
-        0, DEFAULTS, [0] * 16, [0] * 16)])
-    for places in range(88, 101):
-        play("%d places" % places, TASK + [hands(NUMBERS, *CODES, places=places), write(8, 2 * EVERY), back(places),
-                                           *holds(0, CODES, [0] * 16, NUMBERS)])
-    # A chip with something in every part: 7 Trace samples, the first of them begun, both flags, the lost mark.
-    history = [write(1, 0x19), write(4, 0xABCD), *[write(32 + i, 0x1000 + i) for i in range(8)], stamp(1000), node(57),
-               write(112, 0, 1), (write(112, 0, 1), 8), *[(read(64), 10)] * 3, (buffer(84), None),
-               *[write(96, i, 1) for i in range(8)], (write(96, 0, 1), 8), (buffer(25), None)] + TASK + [
-        sees(64, NUMBERS[0]), write(1, 0x4000), write(7, 0x12345678)]
-    shared = [csr(0x4311), sees(2, 1000, 56), sees(4, 0xABCD, 16), sees(5, 3), sees(6, 2),
-              *counts(*range(0x1000, 0x1008), first=32)]
-    queue = [whole(sample(0, 0x1000, 1000, 1)[5:] + sum([sample(0, 0x1000, 1000, i) for i in range(2, 8)], [])),
-             write(1, 0x8000), write(96, 8, 1), whole(sample(16, 0x1000, 1000, 8)),  # the lost mark
-             *codes(0x22, 0x11, 0x32), write(64, 0), write(65, 0), node(2), *counts(0, 0), node(1), *counts(1, 0),
-             node(39), *counts(4, 0), node(1), *counts(5, 1)]  # the phase: 57
-    after = (EVERY, *CODES[1:])
-    play("every part after a hand-over", history + [
-        hands(NUMBERS, *CODES), *holds(0, after, [0] * 16, [0] * 16), *shared, *queue])
-    sevens, nines = list(range(0, 112, 7)), [9] * 16
-    play("every part after a giving-back", history + [
-        hands(NUMBERS, *CODES), write(1, 0x8000), *codes(2 * EVERY, 10 * EVERY, 3 * EVERY),
-        *[write(64 + i, number) for i, number in enumerate(sevens)], sees(64, 0),
-        *[write(64 + i, number) for i, number in enumerate(nines)], write(1, 0x4000), write(7, 0x55AA55AA), back(88),
-        *holds(0x55AA55AA, CODES, sevens, NUMBERS), *shared, *queue])
-    play("refused, they leave every part", history + [(hand(0), 13), (hand(87), 13), (back(88), 14), (back(87), 13)]
-         + holds(0x12345678, CODES, NUMBERS, NUMBERS) + shared + queue)
-    play("the High Order register's zero is written with", TASK + [
-        write(1, 0x4000), write(7, 0x33333333), hands(NUMBERS, *CODES), write(8, 0x2222222222222222),
-        sees(8, 0x1111111122222222, 64)])
-
-
-def counting_after_hand_over():
-    for mode, clock in itertools.product(range(1, 8), (1, 2, 3, 4)):
-        codes_now = (14 * EVERY, mode * EVERY, clock * EVERY)
-        events = [external(65535), stamp(300, 65535), node(300, 65535), *[write(80 + i) for i in range(16)]]
-        adds = {2: 1, 4: 1, 6: 1}.get(mode, {1: 300, 2: 30, 3: 3, 4: 300}[clock])
-        play("Mode %d, Clock Select %d: disabled, and again as before" % (mode, clock), codes(*codes_now) + events + [
-            hands([adds] * 16, *codes_now), *events, *counts(*[0] * 16), *events, back(88), *counts(*[adds] * 16),
-            *events, *counts(*[2 * adds] * 16), hands([2 * adds] * 16, *codes_now), write(8, 2 * EVERY), *events,
-            *counts(*[adds] * 16)])
-    pair = (EVERY + 1, 4 * EVERY - 4 + 0xA, 4 * EVERY)
-    play("a pair", codes(2, 0xA) + [
-        write(64, TOP32), write(65, 6), write(80), write(80), hands([1, 7] + [0] * 14, *pair), *counts(0, 0),
-        write(80), *counts(0, 0), write(8, 2), write(64, TOP32), write(80), *counts(0, 1),  # the pairing stays
-        back(88), *counts(1, 7), write(64, TOP32), write(80), *counts(0, 8)])
-    play("a giving-back parts a pair", codes(2, 2) + [
-        (hand(88), None), write(10, 0xA), write(8, 2), write(64, TOP32), write(80), *counts(0, 1), back(88),
-        *counts(0, 0), write(64, TOP32), write(80), *counts(0, 0)])
-    play("a giving-back pairs", codes(2, 0xA) + [
-        write(65, 5), (hand(88), None), write(10, 2), write(8, 2), write(64, TOP32), write(80), *counts(0, 0), back(88),
-        *counts(0, 5), write(64, TOP32), write(80), *counts(0, 6)])
-    play("one half of a pair may hold what it likes", poked([TOP32, TOP32] * 8, 2 * EVERY, 10 * EVERY, EVERY) + [
-        back(88), *[write(80 + i) for i in range(0, 16, 2)], *counts(*[0] * 16)])
-    for code in (3, 7, 11, 15):
-        play("a saved Enable field %d resets nothing" % code, [
-            write(8, code * EVERY), *[write(64 + i, 5 + i) for i in range(16)],
-            hands(range(5, 21), code * EVERY, *DEFAULTS[1:]), write(64, 1), back(88), sees(8, code * EVERY, 64),
-            *counts(*range(5, 21)), external(65535), *counts(*range(6, 22))])
-    play("a giving-back in 32-bit mode", TASK + [
-        hands(NUMBERS, *CODES), write(1, 0x4000), write(7, 0x77777777), back(88), *holds(
-            0x77777777, CODES, [0] * 16, NUMBERS)])
-    one, other = ([3] * 16, 2 * EVERY, 2 * EVERY, EVERY), ([TOP32, 0] * 8, 6 * EVERY, 12 * EVERY, 2 * EVERY)
-    play("two tasks take turns", poked(*one) + [
-        back(88), write(80), *counts(4, 3), hands([4] + [3] * 15, *one[1:]), *poked(*other), back(88),
-        *counts(*other[0]), external(1), *counts(0, 1, TOP32, 0), hands([0, 1] + [TOP32, 0] * 7, *other[1:]),
-        *poked([4] + [3] * 15, *one[1:]), back(88), *counts(4, *[3] * 15), write(81), *counts(4, 4, 3),
-        *poked([0, 1] + [TOP32, 0] * 7, *other[1:]), back(88), *counts(0, 1, TOP32, 0), external(4),
-        hands([0, 1, 0, 1] + [TOP32, 0] * 6, *other[1:])])
-
-
-def refused_hand_overs():
-    busy = ON + TASK + [write(112, 0, 1), write(7, 0x77)]
-    same = [sees(7, 0x77), *[sees(address, number, 64) for address, number in zip((8, 10, 12), CODES)],
-            *counts(*NUMBERS, first=80), (read(64), BUSY), csr(0x8081), whole(sample(8, 0, 0, 0, NUMBERS)),
-            *counts(*NUMBERS)]
-    play("12 before 13, nothing changes", busy + [(hand(places), 12) for places in range(101)] + [
-        (hand(101), 9), (back(88), 14), (back(87), 13), *same])
-    play("12 until the last word", busy + [(buffer(83), None), (hand(88), 12), (SEND, None), hands(NUMBERS, *CODES)])
-    play("12 under read wait adds no wait", busy + [write(1, 16), (hand(88), 12), sees(5, 0)])
-    play("13 for fewer than 88 places", TASK + [(hand(places), 13) for places in range(88)] + [
-        *holds(0, CODES, [0] * 16, NUMBERS), hands(NUMBERS, *CODES)])
-    play("13 before 14", [(back(size), 13) for size in range(88)] + [(back(size), 14) for size in range(88, 101)])
-    # A refused hand-over leaves the buffer: the set before it comes back.
-    old = (list(range(16)), 2 * EVERY, 6 * EVERY, 7 * EVERY)
-    play("refused hand-overs write nothing", ON + poked(*old) + TASK + [
-        *[(hand(size), 13) for size in (0, 1, 50, 87)], write(112, 0, 1), (hand(88), 12), (hand(100), 12),
-        (buffer(84), None), back(88), *holds(0, old[1:], NUMBERS, old[0])])
-    play("busy shadows don't hold a giving-back up", poked(*old) + ON + TASK + [
-        write(112, 0, 1), write(7, 0x77), back(88), sees(7, 0x77), *counts(*NUMBERS, first=80), (read(64), BUSY),
-        (hand(88), 12), *[sees(address, number, 64) for address, number in zip((8, 10, 12), old[1:])], csr(0x8081),
-        whole(sample(8, 0, 0, 0, NUMBERS)), *counts(*old[0])])
-    # Each code in each field: 14 for those that change nothing when written, and then nothing changes here either.
-    for name, place, address, default, heeded in [("Enable", 64, 8, 1, 3), ("Mode", 72, 10, 4, 7),
-                                                  ("Clock Select", 80, 12, 4, 7)]:
-        steps, other = poked(NUMBERS, *DEFAULTS), (0x6666666699999999, 0x3333333355555555, 0x7777777722222222)
-        for i, code in itertools.product(range(16), range(16)):
-            byte = code + 16 * default if i % 2 == 0 else default + 16 * code
-            given = dict(zip((8, 10, 12), DEFAULTS))
-            given[address] = default * EVERY & ~(15 << 4 * i) | code << 4 * i
-            steps += codes(*other) + [write(64, 1), write(79, 2), poke(place + i // 2, byte), (back(87), 13)]
-            if code & heeded:
-                steps += [back(88), sees(64, NUMBERS[0]), sees(79, NUMBERS[15])]
-            else:
-                steps += [(back(88), 14), (back(100), 14), sees(64, 1), sees(79, 2)]
-                given = dict(zip((8, 10, 12), other))
-            steps += [*[sees(where, number, 64) for where, number in given.items()], poke(place + i // 2, 17 * default)]
-        play("14 by each code of " + name, steps)
-
-
-def kept_buffer():
-    given = ([0x11111111 * (i % 15) for i in range(16)], 0x2222222233333333, 0x5555555566666666, 0x7777777711111111)
-    play("each byte by itself", poked(*given) + [back(88), *holds(0, given[1:], [0] * 16, given[0])])
-    for place in range(100):
-        after = bytearray(saved(NUMBERS, *CODES) + bytes(12))
-        after[place] = 0xEE
-        play("byte %d alone" % place, TASK + [
-            hands(NUMBERS, *CODES), poke(place, 0xEE), back(100), (hand(88), (0, 0, after[:88].hex()))])
-    play("poke's bounds", TASK + [hands(NUMBERS, *CODES)] + [(poke(place, 0), 9) for place in range(100, 256)] + [
-        poke(99, 0), poke(88, 0), back(88), *holds(0, CODES, [0] * 16, NUMBERS)])
-    for name, reset in [("hardware", HARD), ("software", SOFT)]:
-        play("the buffer stays over a %s reset" % name, TASK + [
-            hands(NUMBERS, *CODES), reset, *holds(0, DEFAULTS, [0] * 16, [0] * 16), poke(3, 9), reset, back(88),
-            *counts(NUMBERS[0] & 0xFFFFFF | 9 << 24, *NUMBERS[1:]), reset, reset, poke(3, 4), back(88),
-            *holds(0, CODES, [0] * 16, NUMBERS)])
-    play("a buffer send leaves it", ON + TASK + [
-        hands(NUMBERS, *CODES), write(96, 1, 1), write(112, 1, 1), (buffer(1000), None), back(88), *counts(*NUMBERS)])
-    play("a set is given back twice", TASK + [
-        hands(NUMBERS, *CODES), back(88), write(64, 1), write(8, EVERY), back(88), *counts(*NUMBERS),
-        sees(8, CODES[0], 64)])
-    bad = [(1, 0), (128, 0), (0, 1), (0, 128), (0, 256), (0, 2**15)]
-    play("bad records of the new kinds", TASK + [hands(NUMBERS, *CODES), back(88)] + [
-        step for zeros in bad for step in [(record(8, 0, 0, 88, 0, *zeros), 9), (record(9, 0, 0, 88, 0, *zeros), 9), (
-            record(10, 64, 0, 0, 0, *zeros), 9)]] + [(record(kind, data=data), 9) for kind in (8, 9) for data in (
-                101, 256 + 88, 2**32 + 88, 2**63, TOP64)] + [
-        back(88), *counts(*NUMBERS), write(64, 7), hands([7, *NUMBERS[1:]], *CODES)])
-    play("fields that the new kinds don't need", TASK + [
-        (record(8, 255, 255, 88, 65535), (0, 0, saved(NUMBERS, *CODES).hex())), record(9, 255, 255, 88, 65535),
-        record(10, 1, 9, TOP64, 65535), record(9, 200, 1, 100, 1), sees(64, 0x04030901)])
-
-
 def record_format():
     check("empty input", raw(b""), HEADING)
     for length in range(1, 16):
         check("%d bytes" % length, raw(stamp(3) + read(1) + bytes(length)), HEADING + b"0 0\n0 32772\n9 0\n")
     setup = ON + [write(8, 2 * EVERY), write(10, 4 * EVERY), write(96, 1, 1), stamp(3)]
     after = [sees(2, 3, 56), sees(4, TOP64), csr(0x8001), whole(sample(0, 0, 0, 1)), *counts(*[0] * 16)]
-    play("kinds above 10", setup + [(record(kind, 4, 1, 88), 9) for kind in range(11, 256)] + after)
+    play("kinds above 7", setup + [(record(kind, 4, 1, 1), 9) for kind in range(8, 256)] + after)
     play("zero bytes", setup + [(record(kind, 0, 1, 1, 0, 1 << bit & 255, 1 << bit >> 8), 9)
-                                for kind in range(12) for bit in range(24)] + after)
+                                for kind in range(9) for bit in range(24)] + after)
     play("numbers too large", setup + [(record(kind, data=data), 9) for kind, least in (
-        (3, 2**32), (4, 2**32), (5, 2**16), (7, 1001), (8, 101), (9, 101)) for data in (
-            least, least + 1, 2**33 + 3, 2**63, TOP64)] + after)
+        (3, 2**32), (4, 2**32), (5, 2**16), (7, 1001)) for data in (least, least + 1, 2**33 + 3, 2**63, TOP64)] + after)
     play("fields not needed", ON + [
         record(3, 255, 255, 4), record(4, 255, 255, 4, 9), record(5, 255, 255, 4, 9),
         (record(2, 2, 255, TOP64, 65535), narrow(4, 56)), record(1, 33, 255, 3, 65535), sees(33, 3),
@@ -541,8 +366,7 @@ class Slow:
     """The papers again, with no thought for speed: every tick singly, fields as
     lists, the held samples told from the samples taken and the words sent."""
 
-    def __init__(self, time=0, kept=None):
-        self.kept = kept or bytearray(100)  # the program's buffer, which resets leave
+    def __init__(self, time=0):
         self.time, self.nodes = time, 0
         self.on = {0: 0, 2: 1, 4: 0, 14: 0}  # the settings by their CSR bits
         self.flags, self.lost = set(), False
@@ -569,11 +393,10 @@ class Slow:
 
     def step(self, data):
         kind, address, lines, zero, high, zeros, number = struct.unpack("<BBBBHHQ", data)
-        if kind > 10 or zero or zeros or kind == 10 and address > 99 or number > {
-                3: TOP32, 4: TOP32, 5: 65535, 7: 1000, 8: 100, 9: 100}.get(kind, TOP64):
+        if kind > 7 or zero or zeros or number > {3: TOP32, 4: TOP32, 5: 65535, 7: 1000}.get(kind, TOP64):
             return (9, 0)
         if kind == 0:
-            self.__init__(0, self.kept)
+            self.__init__()
         elif kind == 1:
             if self.on[14]:
                 number = number % 2**32 + self.register[7] * 2**32
@@ -589,12 +412,6 @@ class Slow:
                 self.event(kind, range(16), high)
         elif kind == 5:
             self.event(5, [i for i in range(16) if number >> i & 1])
-        elif kind == 8:
-            return self.hand_over(number)
-        elif kind == 9:
-            return (self.give_back(number), 0)
-        elif kind == 10:
-            self.kept[address] = lines
         else:
             left = [word for stream in self.taken for word in stream][self.sent:][:1 if kind == 6 else number]
             self.sent += len(left)
@@ -603,7 +420,7 @@ class Slow:
 
     def write(self, address, data, lines):
         if address == 0:
-            self.__init__(self.time, self.kept)
+            self.__init__(self.time)
         elif address == 1:
             for place in self.on:
                 self.on[place] = [self.on[place], 1, 0, 0][data >> place & 3]
@@ -665,32 +482,11 @@ class Slow:
             return narrow(self.time, 56)
         return (1 if address > 127 else 3 if address > 95 or address == 0 else 2, 0)
 
-    def hand_over(self, places):
-        if 84 in self.held() or places < 88:
-            return (12 if 84 in self.held() else 13, 0)
-        for i in range(88):  # a byte is a part of a counter, or two fields
-            register = self.field.get({8: ENABLE, 9: MODE, 10: CLOCK}.get(i // 8))
-            self.kept[i] = register[i % 8 * 2] + register[i % 8 * 2 + 1] * 16 if register else \
-                self.counter[i // 4] // 256 ** (i % 4) % 256
-        self.counter, self.shadow, self.register[7], self.field[ENABLE] = [0] * 16, [0] * 16, 0, [1] * 16
-        return (0, 0, self.kept[:88].hex())
-
-    def give_back(self, size):
-        if size < 88:
-            return 13
-        fields = {address: [self.kept[place + i // 2] // 16 ** (i % 2) % 16 for i in range(16)]
-                  for address, place in ((ENABLE, 64), (MODE, 72), (CLOCK, 80))}
-        if 0 in [code % 4 for code in fields[ENABLE]] + [code % 8 for code in fields[MODE] + fields[CLOCK]]:
-            return 14
-        self.field = fields
-        self.counter = [sum(self.kept[4 * i + j] * 256**j for j in range(4)) for i in range(16)]
-        return 0
-
 
 def random_records(chance, length):
     """Records of a random temper: some scripts trigger much, some count much."""
     pick, below, bits = chance.choice, chance.randrange, chance.getrandbits
-    weights = [chance.random() ** 2 for _ in range(13)]
+    weights = [chance.random() ** 2 for _ in range(11)]
     records = [write(1, 9), write(4, 65535)]
     while len(records) < length:
         data, i, high, near = bits(pick([4, 16, 32, 64])), below(16), pick([0, 65535, bits(16)]), TOP32 - below(12)
@@ -705,10 +501,7 @@ def random_records(chance, length):
             [write(64 + i, near), write(64 + (i ^ 1), pick([near, data])), read(64 + i), read(80 + (i ^ 1))],
             [read(pick([1, 5, 6, 7, 8, 10, 12, 64 + i, 80 + i])), read(7)],
             [pick([read, write])(below(256))],
-            [record(below(12), below(1, 256), 1, data % 1100, high, *pick([(0, 0)] * 4 + [(1, 0), (0, 256)]))],
-            [hand(pick([88, 88, 88, 95, 100, 87, below(102)])), *[read(pick([7, 8, 10, 80 + i, 64 + i]))] * below(3)],
-            [poke(pick([below(64), 64 + below(24), below(104)]), pick([17, 34, 85, 0x96, 0xFA, below(256)]))
-             for _ in range(below(3))] + [back(pick([88, 88, 88, 95, 100, 87, below(102)]))],
+            [record(below(9), below(1, 256), 1, data % 1100, high, *pick([(0, 0)] * 4 + [(1, 0), (0, 256)]))],
             [pick([HARD, SOFT]), write(1, 1), write(4, 65535), write(8, 2 * EVERY)] if below(8) == 0 else [],
         ], weights)[0]
     return records
@@ -721,19 +514,16 @@ def random_scripts():
         want = [slow.step(each) for each in records]
         seen += [reply[0] for reply in want]
         check("random script %d" % seed, run(records), want)
-    for number in range(15):
+    for number in range(12):
         check("random scripts often meet reply %d" % number, seen.count(number) >= 100, True)
 
 
 def main():
     global program
     with tempfile.TemporaryDirectory() as folder:
-        program, inside = os.path.join(folder, "twin2"), os.path.join(folder, "inside")
-        for options in (["-O", "-o", program], ["--test", "-o", inside]):
-            subprocess.run(["rustc", "--edition", "2021", *options, os.path.join(HERE, "main.rs")], check=True)
-        check("the test in main.rs", subprocess.run([inside, "-q"], stdout=subprocess.DEVNULL).returncode, 0)
-        for part in (registers, high_order, fields, clocks, pairs, shadows, samples, hand_over,
-                     counting_after_hand_over, refused_hand_overs, kept_buffer, record_format, random_scripts,
+        program = os.path.join(folder, "twin2")
+        subprocess.run(["rustc", "--edition", "2021", "-O", "-o", program, os.path.join(HERE, "main.rs")], check=True)
+        for part in (registers, high_order, fields, clocks, pairs, shadows, samples, record_format, random_scripts,
                      long_input):
             part()
     if not all(results):

@@ -6,17 +6,13 @@ use native.Mathlib.Nat.{mod-lt}
 use native.Mathlib.Omega.{arith}
 use mathlib.Core.Path.{◌≡◌, refl, ap, ◌∙◌}
 use mathlib.Core.Bool.{Bool, true, false, cond, not, ◌&&◌, and-false}
-use mathlib.Core.List.{List, map}
 use lib.Dec.{eqb}
 use lib.ListN.{get_or, length, set}
 use lib.Pow.{pow_mono}
 use borrow.Author.Tests.{eqb-false}
-use Rattle.words.specs.Word.{byte_of}
 use Rattle.samples.specs.Layout.{counter_widths, widths}
 use Rattle.samples.specs.declared.edition.Edition.TheVariants.{Second}
 use Rattle.samples.specs.Write.{within}
-use Rattle.samples.proofs.Gather.{within_gather}
-use Rattle.samples.proofs.ReadLaws.{map_below, number_read}
 use Rattle.counters.specs.Bank.{copied, grown}
 use Rattle.counters.specs.declared.bank.Bank.{Bank}
 use Rattle.counters2.specs.Clocks.{node_clocks, stamp_clocks}
@@ -26,7 +22,6 @@ use Rattle.counters2.specs.Fields.{clocking, enabling, field_at, moding}
 use Rattle.counters2.specs.declared.fields.Fields.{Fields}
 use Rattle.counters2.proofs.ClockLaws.{phase_below}
 use Rattle.counters2.proofs.FieldLaws.{written_below}
-use Rattle.saved.specs.Saved.{number_from, set_of}
 use Rattle.queue.specs.Queue.{advanced, busy, full, inside_queue, next_word, pushed, send_many, send_queue}
 use Rattle.queue.specs.declared.queue.Held.{Held}
 use Rattle.queue.specs.declared.queue.Queue.{Queue}
@@ -40,8 +35,7 @@ use Rattle.chip.specs.Chip.{line_of, one_line}
 use Rattle.chip.proofs.ChipLaws.{either}
 use Rattle.chip.proofs.WidthLaws.{each_within, within_at, within_set}
 use Rattle.chip2.specs.Chip2.{after_nodes, after_ticks, configured_all, data_of, done, enabled_all, external_events, fate_of, fresh, given, inside, node_ticks, ones_above, read, read_at, read_counter, replied, sample_now, send, send_into, send_now, soft_reset, status_of, take_sample, timestamp_ticks, trigger, trigger_by, with_bank, with_control, with_fields, with_high, with_queue, with_sources, write, write_at}
-use Rattle.chip2.specs.HandOver.{restored}
-use Rattle.chip2.specs.Operation.{Operation, op_reset, op_write, op_read, op_ticks, op_nodes, op_events, op_send, op_fill, op_hand, op_back, step}
+use Rattle.chip2.specs.Operation.{Operation, op_reset, op_write, op_read, op_ticks, op_nodes, op_events, op_send, op_fill, step}
 use Rattle.chip2.specs.Place.{place_of}
 use Rattle.chip2.specs.Repeat.{repeat}
 use Rattle.chip2.specs.Rows.{checked}
@@ -50,7 +44,7 @@ use Rattle.chip2.specs.Told.{Told}
 use Rattle.chip2.specs.declared.chip2.Chip2.{Chip2}
 use Rattle.chip2.specs.declared.place.Place.{Place}
 use Rattle.chip2.specs.declared.place.Place.TheVariants.{Beyond, Nowhere, Reset, Csr, Timestamp, Filter, Waits, Overruns, HighOrder, Enable, Mode, Select, Source, Counter, Shadow, Trigger}
-use Rattle.chip2.proofs.ChipLaws.{back_keeps, by_bounds, hand_keeps, inside_by, inside_phase, inside_queue_lem, inside_stamp}
+use Rattle.chip2.proofs.ChipLaws.{by_bounds, inside_by, inside_phase, inside_queue_lem, inside_stamp}
 use Rattle.chip2.proofs.Replies.{reply_15}
 use Rattle.chip2.proofs.Resets.{reset_inside}
 
@@ -197,8 +191,6 @@ keeps_inside op_send c h = guarded_keeps (λ d. inside d ≡ true) (inside c) c 
 keeps_inside (op_fill room) c h =
     guarded_keeps (λ d. inside d ≡ true) (inside c) c (done _ (with_queue (send_queue (widths Second) room c.queue) c)) h
     (inside_queued c (send_queue (widths Second) room c.queue) h (send_bounds (widths Second) room c.queue (inside_queue_lem c h)))
-keeps_inside (op_hand room) c h = hand_keeps (λ d. inside d ≡ true) room c h h
-keeps_inside (op_back saved) c h = back_keeps (λ d. inside d ≡ true) saved c h (λ e. h)
 
 -- ---- the lengths and widths
 
@@ -244,13 +236,6 @@ take_shaped r line bits c s =
     (either (λ x. within counter_widths x.shadows ≡ true) r (copied c.bank) c.bank s.values s.shadows))
     (push_places (sample_now r line bits c) c.queue s.places)
 
--- of a giving-back: numbers of four and of eight bytes
-restored_shaped : (saved : List ℕ) (c : Chip2) → Shaped c → Shaped (restored (set_of saved) c)
-unfolding set_of
-restored_shaped saved c s =
-    let below : (k : ℕ) → number_from 8 k saved < 2 ^ 64 = λ k. number_read 8 k saved (number_from 8 k saved) refl in
-    record { places = s.places; sources = s.sources; values = within_gather counter_widths (map byte_of saved) (map_below saved); shadows = s.shadows; control = s.control; enable = below 64; mode = below 72; select = below 80; high = s.high }
-
 write_shaped : (p : Place) (bits lines : ℕ) (c : Chip2) → Shaped c → Shaped (write_at p bits lines c).chip
 write_shaped p bits lines c s =
     write_keeps Shaped p bits lines c s (λ k w. shaped_control c k s (w s.control)) s (shaped_high c (bits % 2 ^ 32) s (omega arith))
@@ -292,10 +277,6 @@ keeps_shaped op_send c s =
 keeps_shaped (op_fill room) c s =
     guarded_keeps Shaped (inside c) c (done _ (with_queue (send_queue (widths Second) room c.queue) c)) s
     (shaped_queue c (send_queue (widths Second) room c.queue) s (send_places (widths Second) room c.queue s.places))
-keeps_shaped (op_hand room) c s =
-    hand_keeps Shaped room c s
-    (record { places = s.places; sources = s.sources; values = fresh_shaped.values; shadows = fresh_shaped.shadows; control = s.control; enable = fresh_shaped.enable; mode = s.mode; select = s.select; high = fresh_shaped.high })
-keeps_shaped (op_back saved) c s = back_keeps Shaped saved c s (λ e. restored_shaped saved c s)
 
 -- so 15 is never replied on the way
 pub never_15 : (op : Operation) (c : Chip2) → inside c ≡ true → eqb (step op c).number 15 ≡ false

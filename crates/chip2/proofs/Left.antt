@@ -2,23 +2,19 @@
 -- low bits. Assumes nothing.
 use Prim.Native.Nat.{ℕ, ◌%◌, ◌<◌}
 use mathlib.Core.Path.{◌≡◌, refl, sym, ap, ◌∙◌}
-use mathlib.Core.Bool.{Bool, true, false, cond, not, ◌&&◌, false≢true}
+use mathlib.Core.Bool.{Bool, true, false, cond, not, false≢true}
 use lib.Dec.{eqb}
 use borrow.Author.Tests.{eq-eqb, eqb-false}
-use Rattle.words.proofs.WordLaws.{both_left, both_right}
-use Rattle.counters2.specs.Fields.{field_at, fresh_fields, holdable, none_zero, written_fields}
-use Rattle.counters2.specs.declared.fields.Fields.{Fields}
-use Rattle.counters2.proofs.FieldLaws.{each_none, none_each, written_field}
-use Rattle.saved.specs.Saved.{set_of}
+use Rattle.counters2.specs.Fields.{field_at, fresh_fields, written_fields}
+use Rattle.counters2.proofs.FieldLaws.{written_field}
 use Rattle.chip.proofs.AddressLaws.{up_to_at}
 use Rattle.chip.proofs.ChipLaws.{either, not_true}
 use Rattle.chip2.specs.Chip2.{data_of, external_events, fresh, inside, node_ticks, read, send, send_into, timestamp_ticks, write}
 use Rattle.chip2.specs.Left.{Leavable}
-use Rattle.chip2.specs.Operation.{Operation, op_reset, op_write, op_read, op_ticks, op_nodes, op_events, op_send, op_fill, op_hand, op_back, step}
+use Rattle.chip2.specs.Operation.{Operation, op_reset, op_write, op_read, op_ticks, op_nodes, op_events, op_send, op_fill, step}
 use Rattle.chip2.specs.Place.{place_of}
 use Rattle.chip2.specs.Told.{Told}
 use Rattle.chip2.specs.declared.chip2.Chip2.{Chip2}
-use Rattle.chip2.proofs.ChipLaws.{back_keeps, hand_keeps}
 use Rattle.chip2.proofs.Bounds.{guarded_keeps, read_keeps, write_keeps}
 
 -- a test that a number doesn't pass
@@ -40,21 +36,6 @@ written_left low old new i h f e = go (eqb (field_at new i % low) 0) refl (ap (�
     go : (b : Bool) → eqb (field_at new i % low) 0 ≡ b → cond b (field_at old i) (field_at new i) % low ≡ 0 → ⊥
     go true q r = f r
     go false q r = eqb-false (field_at new i % low) 0 q r
-
--- what Wish 10's 14 lets through is that, and the other way round
-pub holdable_left : (f : Fields) → holdable f ≡ true → Leavable f
-holdable_left f e i h =
-    let rest = both_right (none_zero 16 4 f.enable) _ e in (
-      none_each 16 4 f.enable (both_left (none_zero 16 4 f.enable) _ e) i h,
-      (
-        none_each 16 8 f.mode (both_left (none_zero 16 8 f.mode) _ rest) i h,
-        none_each 16 8 f.select (both_right (none_zero 16 8 f.mode) _ rest) i h,
-      ),
-    )
-
-pub left_holdable : (f : Fields) → Leavable f → holdable f ≡ true
-left_holdable f h =
-    λ i. each_none 16 4 f.enable (λ j p. (h j p).0) i && (each_none 16 8 f.mode (λ j p. (h j p).1.0) i && each_none 16 8 f.select (λ j p. (h j p).1.1) i)
 
 -- every operation, on any record
 pub keeps_left : (op : Operation) (c : Chip2) → Leavable c.fields → Leavable (step op c).chip.fields
@@ -78,5 +59,3 @@ keeps_left (op_events mask) c h = guarded_keeps (λ d. Leavable d.fields) (insid
 keeps_left op_send c h =
     guarded_keeps (λ d. Leavable d.fields) (inside c) c _ h (either (λ (t : Told). Leavable t.chip.fields) (eqb c.queue.held 0) _ _ h h)
 keeps_left (op_fill room) c h = guarded_keeps (λ d. Leavable d.fields) (inside c) c _ h h
-keeps_left (op_hand room) c h = hand_keeps (λ d. Leavable d.fields) room c h (λ i p. ((fresh_left i p).0, (h i p).1))
-keeps_left (op_back saved) c h = back_keeps (λ d. Leavable d.fields) saved c h (holdable_left (set_of saved).fields)

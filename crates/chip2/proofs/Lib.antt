@@ -2,8 +2,6 @@
 pub mod AddressLaws
 pub mod Bounds
 pub mod ChipLaws
-pub mod HandLaws
-pub mod HandOver
 pub mod HighOrder
 pub mod Left
 pub mod LineLaws

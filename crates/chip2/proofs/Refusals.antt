@@ -2,27 +2,24 @@
 -- nothing.
 use Prim.Native.Nat.{ℕ, ◌^◌}
 use mathlib.Core.Path.{◌≡◌, refl, sym, ap, subst, ◌∙◌}
-use mathlib.Core.Bool.{Bool, true, false, cond, ◌&&◌, false≢true}
-use lib.Dec.{leb, ltb, eqb}
-use lib.ListN.{length}
-use borrow.Author.Tests.{lt-leb, ne_eqb}
-use Rattle.counters2.specs.Fields.{holdable}
-use Rattle.saved.specs.Saved.{set_of}
+use mathlib.Core.Bool.{Bool, true, false, cond, ◌&&◌}
+use lib.Dec.{leb, eqb}
+use borrow.Author.Tests.{lt-leb}
 use Rattle.samples.specs.Layout.{widths}
 use Rattle.samples.specs.declared.edition.Edition.TheVariants.{Second}
 use Rattle.queue.specs.Queue.{advanced, busy, full, next_word}
 use Rattle.control.specs.Control.{overran, waited}
 use Rattle.control.specs.Fate.{Fate, is_off, is_filtered, is_lost, is_told, is_taken}
-use Rattle.control.specs.declared.reply.Reply.TheVariants.{Lines, NoWord, Wait, Busy, Occupied, Short, Unholdable, Outside}
+use Rattle.control.specs.declared.reply.Reply.TheVariants.{Lines, NoWord, Wait, Busy, Outside}
 use Rattle.chip.specs.Chip.{blocked, line_of, one_line}
 use Rattle.chip.specs.Place.{between}
+use Rattle.chip.specs.Rows.{refused}
 use Rattle.chip.proofs.ChipLaws.{either}
-use Rattle.chip.proofs.Refusals.{Unless, value_at}
+use Rattle.chip.proofs.Refusals.{Unless, refused_not, value_at}
 use Rattle.chip2.specs.Chip2.{after_ticks, data_of, done, external_events, fate_of, inside, node_ticks, read, read_at, read_counter, replied, send, send_into, send_now, timestamp_ticks, trigger, trigger_by, with_control, with_queue, write, write_at}
-use Rattle.chip2.specs.HandOver.{give_back, hand_over, handed, restored}
-use Rattle.chip2.specs.Operation.{Operation, op_reset, op_write, op_read, op_ticks, op_nodes, op_events, op_send, op_fill, op_hand, op_back, step}
+use Rattle.chip2.specs.Operation.{Operation, op_reset, op_write, op_read, op_ticks, op_nodes, op_events, op_send, op_fill, step}
 use Rattle.chip2.specs.Place.{place_of, register_of}
-use Rattle.chip2.specs.Rows.{refuses, resource_held, resource_trigger}
+use Rattle.chip2.specs.Rows.{resource_held, resource_trigger}
 use Rattle.chip2.specs.Told.{Told}
 use Rattle.chip2.specs.declared.chip2.Chip2.{Chip2}
 use Rattle.chip2.specs.declared.place.Place.{Place}
@@ -124,7 +121,7 @@ resource_at_lem a =
 
 -- every operation
 kept : (op : Operation) (c : Chip2) → KeptBy (resource_trigger op) c (step op c)
-unfolding write read timestamp_ticks node_ticks external_events send send_into hand_over give_back
+unfolding write read timestamp_ticks node_ticks external_events send send_into
 kept op_reset c = tt
 kept (op_write a bits lines) c =
     kept_guard (between 112 127 a) (inside c) c (write_at (place_of a) (data_of bits c) lines c)
@@ -139,34 +136,19 @@ kept op_send c = kept_guard false (inside c) c (send_now c) (go (eqb c.queue.hel
     go true = (refl, refl)
     go false = tt
 kept (op_fill room) c = kept_guard false (inside c) c (done _ _) tt
-kept (op_hand room) c = kept_guard false (inside c) c _ (go (busy c.queue) (ltb room 88))
-  where
-    go : (b s : Bool) → KeptBy false c (cond b (replied Occupied c) (cond s (replied Short c) (done 0 (handed c))))
-    go true s = (refl, refl)
-    go false true = (refl, refl)
-    go false false = tt
-kept (op_back saved) c = kept_guard false (inside c) c _ (go (ltb (length saved) 88) (holdable (set_of saved).fields))
-  where
-    go : (s h : Bool) → KeptBy false c (cond s (replied Short c) (cond h (done 0 (restored (set_of saved) c)) (replied Unholdable c)))
-    go true h = (refl, refl)
-    go false true = tt
-    go false false = (refl, refl)
 
 -- ---- the columns
 
-refuses_not : (n m : ℕ) → refuses n ≡ true → refuses m ≡ false → eqb n m ≡ false
-refuses_not n m e p = ne_eqb n m (λ q. false≢true (sym p ∙ ap refuses (sym q) ∙ e))
-
-kept_refused : (r : Bool) (c : Chip2) (n v : ℕ) (d : Chip2) → refuses n ≡ true → Kept r c n v d → (v ≡ 0) × (d ≡ c)
+kept_refused : (r : Bool) (c : Chip2) (n v : ℕ) (d : Chip2) → refused n ≡ true → Kept r c n v d → (v ≡ 0) × (d ≡ c)
 kept_refused r c n v d e k =
-    simp (refuses_not n 0 e refl, refuses_not n 8 e refl, refuses_not n 10 e refl, refuses_not n 11 e refl) at k
+    simp (refused_not n 0 e refl, refused_not n 8 e refl, refused_not n 10 e refl, refused_not n 11 e refl) at k
 
 module _ (op : Operation) (c : Chip2) where
   kept_as : (n : ℕ) → (step op c).number ≡ n → Kept (resource_trigger op) c n (step op c).value (step op c).chip
   kept_as n e = subst (λ (m : ℕ). Kept (resource_trigger op) c m (step op c).value (step op c).chip) e (kept op c)
 
-  -- 1 to 5 and 15: value "0", record "same"; Wish 10's 12, 13 and 14 likewise: "with record .. unchanged"
-  pub refusals : refuses (step op c).number ≡ true → ((step op c).value ≡ 0) × ((step op c).chip ≡ c)
+  -- 1 to 5 and 15: value "0", record "same"
+  pub refusals : refused (step op c).number ≡ true → ((step op c).value ≡ 0) × ((step op c).chip ≡ c)
   refusals e = kept_refused (resource_trigger op) c (step op c).number (step op c).value (step op c).chip e (kept op c)
 
   -- 6 and 7: value "0", record "same"

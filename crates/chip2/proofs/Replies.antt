@@ -6,26 +6,21 @@ use mathlib.Core.Path.{◌≡◌, refl, sym, ap, ap₂, ◌∙◌}
 use mathlib.Core.Bool.{Bool, true, false, cond, not, ◌&&◌, ◌||◌, and-false}
 use mathlib.Core.List.{List, [], ◌∷◌}
 use lib.Dec.{leb, ltb, eqb}
-use lib.ListN.{get_or, length}
-use borrow.Author.Tests.{le-leb, lt-ltb, lt-leb, ne_eqb, ltb-true, ltb-false}
-use Rattle.counters2.specs.Fields.{holdable}
-use Rattle.saved.specs.Nibbles.{poor_set}
-use Rattle.saved.specs.Saved.{set_of}
-use Rattle.saved.proofs.NibbleLaws.{poor_set_lem}
+use lib.ListN.{get_or}
+use borrow.Author.Tests.{lt-ltb, lt-leb, ne_eqb, ltb-true, ltb-false}
 use Rattle.queue.specs.Queue.{busy}
 use Rattle.control.specs.Fate.{fate}
-use Rattle.control.specs.declared.reply.Reply.TheVariants.{Lines, NoWord, Wait, Busy, Occupied, Short, Unholdable, Outside}
+use Rattle.control.specs.declared.reply.Reply.TheVariants.{Lines, NoWord, Wait, Busy, Outside}
 use Rattle.control.proofs.ReplyLaws.{reply_one}
 use Rattle.chip.specs.Chip.{lacks_room, line_of, one_line}
 use Rattle.chip.specs.Rows.{one_active, read_only, triggering}
 use Rattle.chip.proofs.AddressLaws.{or_rest, same, same_eq, up_to_at}
 use Rattle.chip.proofs.LineLaws.{one_line_lem}
-use Rattle.chip.proofs.Replies.{few_rows, marks, marks_reset, other_number, read_rows, some_true, table, table_some, write_rows}
+use Rattle.chip.proofs.Replies.{few_rows, marks, marks_reset, read_rows, table, write_rows}
 use Rattle.chip2.specs.Chip2.{data_of, done, external_events, inside, node_ticks, read, read_at, read_counter, replied, send, send_into, timestamp_ticks, trigger, trigger_by, write, write_at}
-use Rattle.chip2.specs.HandOver.{give_back, hand_over, handed, restored}
-use Rattle.chip2.specs.Operation.{Operation, op_reset, op_write, op_read, op_ticks, op_nodes, op_events, op_send, op_fill, op_hand, op_back, step}
+use Rattle.chip2.specs.Operation.{Operation, op_reset, op_write, op_read, op_ticks, op_nodes, op_events, op_send, op_fill, step}
 use Rattle.chip2.specs.Place.{place_of, register_of}
-use Rattle.chip2.specs.Rows.{counter_at, lacking, mapped, passes, row0, row1, row2, row3, row4, row5, row6, row7, row8, row10, row11, row12, row13, row14, row15, trigger_case, vacant, write_only}
+use Rattle.chip2.specs.Rows.{counter_at, lacking, mapped, passes, row0, row1, row2, row3, row4, row5, row6, row7, row8, row10, row11, row15, trigger_case, vacant, write_only}
 use Rattle.chip2.specs.Told.{Told, told}
 use Rattle.chip2.specs.declared.chip2.Answer.{Answer}
 use Rattle.chip2.specs.declared.chip2.Chip2.{Chip2}
@@ -37,14 +32,10 @@ use Rattle.chip2.proofs.RoomLaws.{rows_busy, rows_room}
 
 -- ---- the rows by their tests
 
--- the first chip's rows at once, and 0
+-- all rows at once
 abbrev rows : Operation → Chip2 → List Bool
 rows op c =
-    row15 op c ∷ row1 op c ∷ row2 op c ∷ row3 op c ∷ row4 op c ∷ row5 op c ∷ row6 op c ∷ row7 op c ∷ row8 op c ∷ row10 op c ∷ row11 op c ∷ row0 op c ∷ []
-
--- Wish 10's numbers
-abbrev hand_marks : ℕ → List Bool
-hand_marks n = eqb n 12 ∷ eqb n 13 ∷ eqb n 14 ∷ []
+    table (row15 op c) (row1 op c) (row2 op c) (row3 op c) (row4 op c) (row5 op c) (row6 op c) (row7 op c) (row8 op c) (row10 op c) (row11 op c)
 
 -- what the rows ask of an address
 abbrev tests : ℕ → List Bool
@@ -139,72 +130,9 @@ marks_sent true true c d v = refl
 marks_sent true false c d v = refl
 marks_sent false n c d v = refl
 
--- where no row but 15, 12, 13 and 14 can be
-abbrev none_but : Bool → Bool → Bool → Bool → Bool
-none_but i x12 x13 x14 =
-    let o = i && false in
-    not (x12 || (x13 || (x14 || (not i || (o || (o || (o || (o || (o || (o || (o || (o || (o || o)))))))))))))
-
-abbrev hand_rows : Bool → Bool → Bool → Bool → List Bool
-hand_rows i x12 x13 x14 =
-    let o = i && false in
-    not i ∷ o ∷ o ∷ o ∷ o ∷ o ∷ o ∷ o ∷ o ∷ o ∷ o ∷ none_but i x12 x13 x14 ∷ []
-
--- of a hand-over: `b` shadows busy, `s` a buffer too short
-marks_hand : (i b s : Bool) (c d : Chip2) → marks (cond i (cond b (replied Occupied c) (cond s (replied Short c) (done 0 d))) (replied Outside c)).number ≡ hand_rows i (i && b) ((i && (not b && s)) || false) false
-marks_hand true true s c d = refl
-marks_hand true false true c d = refl
-marks_hand true false false c d = refl
-marks_hand false b s c d = refl
-
-hands : (i b s : Bool) (c d : Chip2) → hand_marks (cond i (cond b (replied Occupied c) (cond s (replied Short c) (done 0 d))) (replied Outside c)).number ≡ (i && b) ∷ ((i && (not b && s)) || false) ∷ false ∷ []
-hands true true s c d = refl
-hands true false true c d = refl
-hands true false false c d = refl
-hands false b s c d = refl
-
--- of a giving-back: `s` too few bytes, `p` a field that can't be held, `h` that all can
-module _ (i h p : Bool) (c d : Chip2) where
-  abbrev back_by : Bool → Bool → Told
-  back_by s t = cond i (cond s (replied Short c) (cond t (done 0 d) (replied Unholdable c))) (replied Outside c)
-
-  marks_back : (s : Bool) → (s ≡ false → h ≡ not p) → (marks (back_by s h).number ≡ hand_rows i false (i && s) (i && (not s && p))) × (hand_marks (back_by s h).number ≡ false ∷ (i && s) ∷ (i && (not s && p)) ∷ [])
-  marks_back true e = short_set i
-    where
-      short_set : (t : Bool) → (marks (cond t (replied Short c) (replied Outside c)).number ≡ hand_rows t false (t && true) (t && false)) × (hand_marks (cond t (replied Short c) (replied Outside c)).number ≡ false ∷ (t && true) ∷ (t && false) ∷ [])
-      short_set true = (refl, refl)
-      short_set false = (refl, refl)
-  marks_back false e =
-      let by = ap (back_by false) (e refl) in
-      let is = whole i p in
-      (ap (λ (t : Told). marks t.number) by ∙ is.0, ap (λ (t : Told). hand_marks t.number) by ∙ is.1)
-    where
-      whole : (t q : Bool) → (marks (cond t (cond (not q) (done 0 d) (replied Unholdable c)) (replied Outside c)).number ≡ hand_rows t false (t && false) (t && q)) × (hand_marks (cond t (cond (not q) (done 0 d) (replied Unholdable c)) (replied Outside c)).number ≡ false ∷ (t && false) ∷ (t && q) ∷ [])
-      whole true true = (refl, refl)
-      whole true false = (refl, refl)
-      whole false q = (refl, refl)
-
--- too short, or all there
-pub whole_not : (n m : ℕ) → leb m n ≡ not (ltb n m)
-whole_not n m = go (ltb n m) refl
-  where
-    go : (t : Bool) → ltb n m ≡ t → leb m n ≡ not t
-    go true e = lt-leb m n (ltb-true n m e)
-    go false e = le-leb m n (ltb-false n m e)
-
-module _ (saved : List ℕ) (c : Chip2) where
-  back_rows : (marks (give_back saved c).number ≡ rows (op_back saved) c) × (hand_marks (give_back saved c).number ≡ row12 (op_back saved) c ∷ row13 (op_back saved) c ∷ row14 (op_back saved) c ∷ [])
-  unfolding give_back
-  back_rows =
-      let i = inside c in
-      let s = ltb (length saved) 88 in
-      let is = marks_back i (holdable (set_of saved).fields) (poor_set saved) c (restored (set_of saved) c) s (λ e. poor_set_lem saved (ltb-false (length saved) 88 e)) in
-      let all : not s ≡ leb 88 (length saved) = sym (whole_not (length saved) 88) in
-      (is.0 ∙ ap (λ (t : Bool). hand_rows i false (i && s) (i && (t && poor_set saved))) all, is.1 ∙ ap (λ (t : Bool). false ∷ (i && s) ∷ (i && (t && poor_set saved)) ∷ []) all)
-
 -- every operation
 all_rows : (op : Operation) (c : Chip2) → marks (step op c).number ≡ rows op c
-unfolding write read timestamp_ticks node_ticks external_events send send_into hand_over
+unfolding write read timestamp_ticks node_ticks external_events send send_into
 all_rows op_reset c = marks_reset (inside c)
 all_rows (op_write a bits lines) c =
     marks_guarded (inside c) c (write_at (place_of a) (data_of bits c) lines c)
@@ -219,38 +147,6 @@ all_rows (op_nodes k levels) c = marks_done (inside c) c _ 0
 all_rows (op_events mask) c = marks_done (inside c) c _ 0
 all_rows op_send c = marks_sent (inside c) (eqb c.queue.held 0) c _ _
 all_rows (op_fill room) c = marks_done (inside c) c _ _
-all_rows (op_hand room) c =
-    marks_hand (inside c) (busy c.queue) (ltb room 88) c (handed c)
-    ∙ ap (λ (b : Bool). hand_rows (inside c) (inside c && b) ((inside c && (not b && ltb room 88)) || false) false) (rows_busy c)
-all_rows (op_back saved) c = (back_rows saved c).0
-
--- ---- 12, 13 and 14
-
--- where one of the first chip's rows holds it is none of them
-no_hand : (op : Operation) (c : Chip2) → some_true (rows op c) ≡ true → hand_marks (step op c).number ≡ false ∷ false ∷ false ∷ []
-unfolding some_true
-no_hand op c some =
-    let other : (m : ℕ) → some_true (marks m) ≡ false → eqb (step op c).number m ≡ false = other_number (step op c).number (rows op c) (all_rows op c) some in
-    λ i. other 12 refl i ∷ other 13 refl i ∷ other 14 refl i ∷ []
-
-some_row : (op : Operation) (c : Chip2) → some_true (table (row15 op c) (row1 op c) (row2 op c) (row3 op c) (row4 op c) (row5 op c) (row6 op c) (row7 op c) (row8 op c) (row10 op c) (row11 op c)) ≡ true
-some_row op c =
-    table_some (row15 op c) (row1 op c) (row2 op c) (row3 op c) (row4 op c) (row5 op c) (row6 op c) (row7 op c) (row8 op c) (row10 op c) (row11 op c)
-
-hand_rows_lem : (op : Operation) (c : Chip2) → hand_marks (step op c).number ≡ row12 op c ∷ row13 op c ∷ row14 op c ∷ []
-unfolding hand_over
-hand_rows_lem op_reset c = no_hand op_reset c (some_row op_reset c)
-hand_rows_lem (op_write a bits lines) c = no_hand (op_write a bits lines) c (some_row (op_write a bits lines) c)
-hand_rows_lem (op_read a) c = no_hand (op_read a) c (some_row (op_read a) c)
-hand_rows_lem (op_ticks k levels) c = no_hand (op_ticks k levels) c (some_row (op_ticks k levels) c)
-hand_rows_lem (op_nodes k levels) c = no_hand (op_nodes k levels) c (some_row (op_nodes k levels) c)
-hand_rows_lem (op_events mask) c = no_hand (op_events mask) c (some_row (op_events mask) c)
-hand_rows_lem op_send c = no_hand op_send c (some_row op_send c)
-hand_rows_lem (op_fill room) c = no_hand (op_fill room) c (some_row (op_fill room) c)
-hand_rows_lem (op_hand room) c =
-    hands (inside c) (busy c.queue) (ltb room 88) c (handed c)
-    ∙ ap (λ (b : Bool). (inside c && b) ∷ ((inside c && (not b && ltb room 88)) || false) ∷ false ∷ []) (rows_busy c)
-hand_rows_lem (op_back saved) c = (back_rows saved c).1
 
 -- ---- the rows
 
@@ -265,8 +161,6 @@ trigger_never f none (op_nodes k levels) = refl
 trigger_never f none (op_events mask) = refl
 trigger_never f none op_send = refl
 trigger_never f none (op_fill room) = refl
-trigger_never f none (op_hand room) = refl
-trigger_never f none (op_back saved) = refl
 
 module _ (op : Operation) (c : Chip2) where
   row_at : (k : ℕ) → get_or (marks (step op c).number) k false ≡ get_or (rows op c) k false
@@ -314,18 +208,6 @@ module _ (op : Operation) (c : Chip2) where
 
   pub reply_11 : eqb (step op c).number 11 ≡ row11 op c
   reply_11 = row_at 10
-
-  hand_at : (k : ℕ) → get_or (hand_marks (step op c).number) k false ≡ get_or (row12 op c ∷ row13 op c ∷ row14 op c ∷ []) k false
-  hand_at k = ap (λ (l : List Bool). get_or l k false) (hand_rows_lem op c)
-
-  pub reply_12 : eqb (step op c).number 12 ≡ row12 op c
-  reply_12 = hand_at 0
-
-  pub reply_13 : eqb (step op c).number 13 ≡ row13 op c
-  reply_13 = hand_at 1
-
-  pub reply_14 : eqb (step op c).number 14 ≡ row14 op c
-  reply_14 = hand_at 2
 
   pub reply_0 : eqb (step op c).number 0 ≡ row0 op c
   reply_0 = row_at 11

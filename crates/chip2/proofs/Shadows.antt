@@ -1,5 +1,5 @@
 -- What the MultiKron II's shadows hold: a read with copy copies all sixteen where the shadows are free, and nothing but that, a Resource trigger
--- a reset and a hand-over write them; a read without copy gives them, busy or not. By the cases of operations and places. Assumes, where said, a record
+-- and a reset writes them; a read without copy gives them, busy or not. By the cases of operations and places. Assumes, where said, a record
 -- inside its bounds with the widths of its types.
 use Prim.Native.Nat.{ℕ, ◌+◌, ◌-◌, ◌/◌, ◌^◌, ◌<◌}
 use native.Mathlib.Omega.{arith}
@@ -17,7 +17,7 @@ use Rattle.chip.specs.Place.{between}
 use Rattle.chip.proofs.ChipLaws.{either}
 use Rattle.chip.proofs.WidthLaws.{within_at}
 use Rattle.chip2.specs.Chip2.{data_of, done, external_events, fate_of, given, inside, node_ticks, ones_above, read, read_at, read_counter, replied, send, send_into, timestamp_ticks, trigger, trigger_by, with_bank, with_control, with_high, write, write_at}
-use Rattle.chip2.specs.Operation.{Operation, op_reset, op_write, op_read, op_ticks, op_nodes, op_events, op_send, op_fill, op_hand, op_back, step}
+use Rattle.chip2.specs.Operation.{Operation, op_reset, op_write, op_read, op_ticks, op_nodes, op_events, op_send, op_fill, step}
 use Rattle.chip2.specs.Place.{place_of, register_of}
 use Rattle.chip2.specs.Rows.{copying, counter_at, resource_held, shadow_at}
 use Rattle.chip2.specs.Shape.{Shaped}
@@ -26,7 +26,7 @@ use Rattle.chip2.specs.declared.chip2.Chip2.{Chip2}
 use Rattle.chip2.specs.declared.place.Place.{Place}
 use Rattle.chip2.specs.declared.place.Place.TheVariants.{Beyond, Nowhere, Reset, Csr, Timestamp, Filter, Waits, Overruns, HighOrder, Enable, Mode, Select, Source, Counter, Shadow, Trigger}
 use Rattle.chip2.proofs.AddressLaws.{place_counter, place_shadow, place_test}
-use Rattle.chip2.proofs.ChipLaws.{back_keeps, guard_in}
+use Rattle.chip2.proofs.ChipLaws.{guard_in}
 use Rattle.chip2.proofs.RoomLaws.{rows_busy}
 
 -- what is read above a number of 32 bits, into the High Order register
@@ -152,5 +152,3 @@ shadows_stay (op_nodes k levels) c e = guarded_keeps c _ refl
 shadows_stay (op_events mask) c e = guarded_keeps c _ refl
 shadows_stay op_send c e = guarded_keeps c _ (either (Keeps c) (eqb c.queue.held 0) _ _ refl refl)
 shadows_stay (op_fill room) c e = guarded_keeps c _ refl
-shadows_stay (op_hand room) c e = absurd (false≢true (sym e))
-shadows_stay (op_back saved) c e = back_keeps (λ d. d.bank.shadows ≡ c.bank.shadows) saved c refl (λ h. refl)

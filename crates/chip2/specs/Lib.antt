@@ -1,5 +1,4 @@
 pub mod Chip2
-pub mod HandOver
 pub mod Left
 pub mod Operation
 pub mod Parts
@@ -8,6 +7,5 @@ pub mod Repeat
 pub mod Rows
 pub mod Sent
 pub mod Shape
-pub mod Shared
 pub mod Table
 pub mod Told

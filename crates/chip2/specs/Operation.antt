@@ -1,12 +1,11 @@
--- Document 01, "The chip's operations", on the MultiKron II, with the two of document 02, Wish 10: the operations as a type, and what each does.
-use Rattle.std.specs.Prelude.{ℕ, List}
+-- Document 01, "The chip's operations", on the MultiKron II: the operations as a type, and what each does.
+use Rattle.std.specs.Prelude.{ℕ}
 use Rattle.chip2.specs.Chip2.{external_events, hard_reset, node_ticks, read, send, send_into, timestamp_ticks, write}
-use Rattle.chip2.specs.HandOver.{give_back, hand_over}
 use Rattle.chip2.specs.Told.{Told}
 use Rattle.chip2.specs.declared.chip2.Chip2.{Chip2}
 
 -- a write has its address, data (`bits` here and in the code) and processor lines, a read its address; ticks have their count and the external
--- lines that are high, events their mask, a buffer send and a hand-over the number of their buffer's places, and a giving-back the saved bytes
+-- lines that are high, events their mask, and a buffer send the number of its places
 pub data Operation : Type 0 where
   op_reset : Operation
   op_write : ℕ → ℕ → ℕ → Operation
@@ -15,8 +14,6 @@ pub data Operation : Type 0 where
   op_events : ℕ → Operation
   op_send : Operation
   op_fill : ℕ → Operation
-  op_hand : ℕ → Operation
-  op_back : List ℕ → Operation
 
 -- "Each operation is given the whole record and hands back the next one, with a reply number and a 64-bit value"
 abbrev pub step : Operation → Chip2 → Told
@@ -28,5 +25,3 @@ step (op_nodes k levels) c = node_ticks k levels c
 step (op_events mask) c = external_events mask c
 step op_send c = send c
 step (op_fill room) c = send_into room c
-step (op_hand room) c = hand_over room c
-step (op_back saved) c = give_back saved c

@@ -1,13 +1,11 @@
 -- Document 01, "Reply numbers", for the MultiKron II: for each row of the table, whether an operation on a record is that row's case, with the
--- addresses of document 001, Table B4. The rows are "tried in the order 15, 1, 2, 3, 4, then for a trigger 6, 7, 8 or 10". Those of document 02, Wish 10:
--- "12 .. 13 .. 14 ..; tried after 15 in that order".
-use Rattle.std.specs.Prelude.{ℕ, ◌/◌, ◌%◌, ◌^◌, ◌≤◌, ◌<◌, ◌≡◌, Bool, true, false, not, ◌&&◌, ◌||◌, List, leb, ltb, eqb, get_or, length}
-use Rattle.saved.specs.Nibbles.{poor_set}
+-- addresses of document 001, Table B4. The rows are "tried in the order 15, 1, 2, 3, 4, then for a trigger 6, 7, 8 or 10".
+use Rattle.std.specs.Prelude.{ℕ, ◌/◌, ◌%◌, ◌^◌, ◌≤◌, ◌<◌, ◌≡◌, Bool, true, false, not, ◌&&◌, ◌||◌, leb, ltb, eqb, get_or}
 use Rattle.queue.specs.Queue.{zero_held}
 use Rattle.chip.specs.Place.{between}
-use Rattle.chip.specs.Rows.{one_active, read_only, refused, some_resource, triggering}
+use Rattle.chip.specs.Rows.{one_active, read_only, some_resource, triggering}
 use Rattle.chip2.specs.Chip2.{inside}
-use Rattle.chip2.specs.Operation.{Operation, op_reset, op_write, op_read, op_ticks, op_nodes, op_events, op_send, op_fill, op_hand, op_back}
+use Rattle.chip2.specs.Operation.{Operation, op_reset, op_write, op_read, op_ticks, op_nodes, op_events, op_send, op_fill}
 use Rattle.chip2.specs.declared.chip2.Chip2.{Chip2}
 
 -- ---- addresses, by Table B4
@@ -44,8 +42,6 @@ checked (op_nodes k levels) = true
 checked (op_events mask) = true
 checked op_send = true
 checked (op_fill room) = true
-checked (op_hand room) = true
-checked (op_back saved) = true
 
 -- a write whose address and lines pass the first test, a read whose address passes the second, or a single send under the third
 abbrev pub case : (ℕ → ℕ → Bool) → (ℕ → Bool) → Bool → Operation → Bool
@@ -57,8 +53,6 @@ case w r s (op_nodes k levels) = false
 case w r s (op_events mask) = false
 case w r s op_send = s
 case w r s (op_fill room) = false
-case w r s (op_hand room) = false
-case w r s (op_back saved) = false
 
 -- a trigger with exactly one active processor line that passes a test of its address
 abbrev pub trigger_case : (ℕ → Bool) → Operation → Bool
@@ -67,31 +61,6 @@ trigger_case f op = case (λ a lines. triggering a && (one_active lines && f a))
 -- a read of a counter with copy, under a test
 abbrev pub counter_case : Bool → Operation → Bool
 counter_case b op = case (λ a lines. false) (λ a. counter_at a && b) false op
-
--- a hand-over whose number of places passes a test, and a giving-back whose bytes pass one
-abbrev pub hand_case : (ℕ → Bool) → Operation → Bool
-hand_case f op_reset = false
-hand_case f (op_write address bits lines) = false
-hand_case f (op_read address) = false
-hand_case f (op_ticks k levels) = false
-hand_case f (op_nodes k levels) = false
-hand_case f (op_events mask) = false
-hand_case f op_send = false
-hand_case f (op_fill room) = false
-hand_case f (op_hand room) = f room
-hand_case f (op_back saved) = false
-
-abbrev pub back_case : (List ℕ → Bool) → Operation → Bool
-back_case f op_reset = false
-back_case f (op_write address bits lines) = false
-back_case f (op_read address) = false
-back_case f (op_ticks k levels) = false
-back_case f (op_nodes k levels) = false
-back_case f (op_events mask) = false
-back_case f op_send = false
-back_case f (op_fill room) = false
-back_case f (op_hand room) = false
-back_case f (op_back saved) = f saved
 
 -- ---- triggers, by "Triggers and the queue"
 
@@ -172,34 +141,16 @@ row10 op c =
 abbrev pub row11 : Operation → Chip2 → Bool
 row11 op c = inside c && counter_case (resource_held c && not c.control.readwait) op
 
--- "12 shadows busy (hand-over only)"
-abbrev pub row12 : Operation → Chip2 → Bool
-row12 op c = hand_case (λ room. inside c && resource_held c) op
-
--- "13 buffer shorter than the set (both)": 88 bytes
-abbrev pub row13 : Operation → Chip2 → Bool
-row13 op c =
-    hand_case (λ room. inside c && (not (resource_held c) && ltb room 88)) op || back_case (λ saved. inside c && ltb (length saved) 88) op
-
--- "14 a saved field that its register can never hold (giving back only)"
-abbrev pub row14 : Operation → Chip2 → Bool
-row14 op c = back_case (λ saved. inside c && (leb 88 (length saved) && poor_set saved)) op
-
 -- "0 done, or sample taken": none of the others
 abbrev pub row0 : Operation → Chip2 → Bool
 row0 op c =
-    not (row12 op c || (row13 op c || (row14 op c || (row15 op c || (row1 op c || (row2 op c || (row3 op c || (row4 op c || (row5 op c || (row6 op c || (row7 op c || (row8 op c || (row10 op c || row11 op c)))))))))))))
-
--- document 01: "Refusals are 1 to 5, 9 and 15"; Wish 10: "Refusals: 12 .., 13 .., 14"
-abbrev pub refuses : ℕ → Bool
-refuses n = refused n || between 12 14 n
+    not (row15 op c || (row1 op c || (row2 op c || (row3 op c || (row4 op c || (row5 op c || (row6 op c || (row7 op c || (row8 op c || (row10 op c || row11 op c))))))))))
 
 -- "112-127 .. Resource Sample"
 abbrev pub resource_trigger : Operation → Bool
 resource_trigger op = case (λ a lines. between 112 127 a) (λ a. false) false op
 
--- what may write the shadows: resets, a Resource trigger ("also copies all counters to the shadows"), "Reading-with-copy" and a hand-over ("zero counters,
--- shadows")
+-- what may write the shadows: resets, a Resource trigger ("also copies all counters to the shadows") and "Reading-with-copy"
 abbrev pub copying : Operation → Bool
 copying op_reset = true
 copying (op_write a bits lines) = eqb a 0 || between 112 127 a
@@ -209,5 +160,3 @@ copying (op_nodes k levels) = false
 copying (op_events mask) = false
 copying op_send = false
 copying (op_fill room) = false
-copying (op_hand room) = true
-copying (op_back saved) = false

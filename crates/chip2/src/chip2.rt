@@ -2,7 +2,6 @@
 ghost use Rattle.std.specs.Prelude.{◌≡◌, cond, false, ◌<◌, ◌^◌, get_or, length, set};
 ghost use Rattle.counters.specs.Bank.{copied};
 ghost use Rattle.chip.specs.Chip.{blocked, none_held};
-ghost use Rattle.chip2.specs.HandOver.{give_back, hand_over, handed, handed_buffer, restored};
 ghost use Rattle.chip2.specs.Place.{resets};
 ghost use Rattle.chip2.specs.Told.{told};
 ghost use Rattle.chip2.specs.Table.{send_by};
@@ -18,7 +17,6 @@ use counters2::counts::{fired, loaded, restarted, signalled, ticked};
 use counters2::fields::Fields;
 use queue::queue::{Held, Queue};
 use samples::edition::Edition;
-use saved::saved::{Saved, put, set_of};
 use words::parity::parities;
 
 const TWO_32: u64 = 1 << 32;
@@ -228,69 +226,6 @@ impl Chip2 {
             return self.done(sent.count);
         }
         self.replied(Reply::Outside)
-    }
-
-    // Saves the counters and their control registers in the buffer, and leaves nothing of them to the next task.
-    pub fn hand_over(self, out: &mut [u8]) -> Answer
-        ensures result_value { told result ≡ hand_over (length out.old) self }
-        ensures out_after { out.new ≡ handed_buffer self out.old }
-    {
-        if self.inside() {
-            if self.queue.busy() {
-                return self.replied(Reply::Occupied);
-            }
-            let fields = self.fields;
-            let bank = self.bank;
-            let values = bank.values;
-            let set = Saved { fields, values };
-            if put(set, out) {
-                return self.handed().done(0);
-            }
-            return self.replied(Reply::Short);
-        }
-        self.replied(Reply::Outside)
-    }
-
-    // Counters and control registers hold again what a hand-over saved.
-    pub fn give_back(self, saved: &[u8]) -> Answer
-        ensures { told result ≡ give_back saved.now self }
-    {
-        if self.inside() {
-            if saved.len() < 88 {
-                return self.replied(Reply::Short);
-            }
-            let set = set_of(saved);
-            let fields = set.fields;
-            if fields.holdable() {
-                return self.restored(set).done(0);
-            }
-            return self.replied(Reply::Unholdable);
-        }
-        self.replied(Reply::Outside)
-    }
-}
-
-impl Chip2 {
-    // Counters, shadows and High Order register zero, every counter disabled; the rest is shared and stays.
-    fn handed(self) -> Chip2
-        ensures { result ≡ handed self }
-    {
-        self.fielded(self.fields.disabled())
-            .banked(Bank::zero())
-            .raised(0)
-    }
-
-    // Counters and control registers of a saved set; shadows stay.
-    fn restored(mut self, set: Saved) -> Chip2
-        ensures { result ≡ restored set self }
-    {
-        let fields = set.fields;
-        let values = set.values;
-        let mut bank = self.bank;
-        bank.values = values;
-        self.fields = fields;
-        self.bank = bank;
-        self
     }
 }
 

@@ -7,8 +7,8 @@ use mathlib.Core.Bool.{Bool, true, false}
 use mathlib.Core.List.{List, [], ◌++◌}
 use lib.ListN.{drop, length, take, take-append-drop}
 use lib.Seq.{drop_at, drop-length, length-take-le, take-add, take-take}
-use Rattle.script2.specs.Run.{block_buffer, block_count, block_of, desk_after, input_desk, input_text, record_count, text_after}
-use Rattle.script2.specs.declared.block.Desk.{Desk}
+use Rattle.chip2.specs.declared.chip2.Chip2.{Chip2}
+use Rattle.script2.specs.Run.{block_buffer, block_count, block_of, chip_after, input_chip, input_text, record_count, text_after}
 use Rattle.chip2_run.specs.Turn.{due, due_size, part, whole_size}
 
 pub due_le : (ended : Bool) (size : ℕ) → due_size ended size ≤ size
@@ -42,14 +42,14 @@ pub nothing_came : (held after : ℕ) (m : List ℕ) → after ≤ length m → 
 nothing_came held after m h e = ap (λ (n : ℕ). drop n (take after m)) (sym e ∙ sym (length-take-le after m h)) ∙ drop-length (take after m)
 
 -- a block with room for its records gives their whole text
-module _ (input out : List ℕ) (d : Desk) (room : 6042 * record_count (length input) ≤ length out) where
+module _ (input out : List ℕ) (c : Chip2) (room : 6042 * record_count (length input) ≤ length out) where
   all : block_count input (length out) ≡ record_count (length input)
   all = omega arith
 
-  pub block_whole : block_of input (length out) d ≡ record { desk = input_desk input d; records = record_count (length input); written = length (input_text input d) }
-  unfolding block_of input_desk input_text
-  block_whole = ap (λ (n : ℕ). record { desk = desk_after n input d; records = n; written = length (text_after n input d) }) all
+  pub block_whole : block_of input (length out) c ≡ record { chip = input_chip input c; records = record_count (length input); written = length (input_text input c) }
+  unfolding block_of input_chip input_text
+  block_whole = ap (λ (n : ℕ). record { chip = chip_after n input c; records = n; written = length (text_after n input c) }) all
 
-  pub buffer_whole : block_buffer input out d ≡ input_text input d ++ drop (length (input_text input d)) out
+  pub buffer_whole : block_buffer input out c ≡ input_text input c ++ drop (length (input_text input c)) out
   unfolding block_buffer input_text
-  buffer_whole = ap (λ (n : ℕ). text_after n input d ++ drop (length (text_after n input d)) out) all
+  buffer_whole = ap (λ (n : ℕ). text_after n input c ++ drop (length (text_after n input c)) out) all

@@ -1,17 +1,17 @@
-// The MultiKron II test program: records from standard input to a fresh chip and a buffer of zeros, a line for each to standard output.
+// The MultiKron II test program: records from standard input to a fresh chip, a line for each to standard output.
 ghost use Rattle.std.specs.Prelude.{◌+◌, ◌*◌, ◌-◌, ◌≤◌, ◌<◌, ◌≡◌, true, false, drop, length, take};
-ghost use Rattle.script2.specs.Run.{input_desk, input_text, record_count};
+ghost use Rattle.script2.specs.Run.{input_chip, input_text, record_count};
 ghost use Rattle.chip2_run.specs.Turn.{Turned, due, due_size, whole_size};
 
 use chip2::chip2::Chip2;
 use libc::{STDIN_FILENO, STDOUT_FILENO};
-use script2::block::{Block, Desk, run_block};
+use script2::block::{Block, run_block};
 
-// What stands between two reads: the chip and the kept buffer; how many bytes of the input's buffer have come, and of the text's were handed to
-// the write; whether the input has ended; whether a call has failed.
+// What stands between two reads: the chip; how many bytes of the input's buffer have come, and of the text's were handed to the write; whether
+// the input has ended; whether a call has failed.
 #[derive(Drop)]
 struct Turn {
-    desk: Desk,
+    chip: Chip2,
     size: usize,
     written: usize,
     ended: bool,
@@ -39,12 +39,8 @@ fn main() {
     let input: &mut [u8] = &mut records;
     let text: &mut [u8] = &mut lines;
     let shown = checked(io::write_all(STDOUT_FILENO, b"answer value\n"));
-    let desk = Desk {
-        chip: Chip2::fresh(),
-        kept: [0; 100],
-    };
     let mut turn = Turn {
-        desk,
+        chip: Chip2::fresh(),
         size: 0,
         written: 0,
         ended: false,
@@ -77,12 +73,12 @@ fn pass(turn: Turn, input: &mut [u8], text: &mut [u8]) -> Turn
     let held = keep(input, turn.size);
     let come = read_behind(input, held);
     let size = come.size;
-    let block = answer(turn.desk, input, size, come.ended, text);
+    let block = answer(turn.chip, input, size, come.ended, text);
     let written = block.written;
     let shown = show(text, written);
-    let desk = block.desk;
+    let chip = block.chip;
     Turn {
-        desk,
+        chip,
         size,
         written: shown.size,
         ended: come.ended,
@@ -139,15 +135,15 @@ fn read_behind(input: &mut [u8], held: usize) -> Come
 }
 
 // Answers what is due of the bytes that have come.
-fn answer(desk: Desk, input: &[u8], size: usize, ended: bool, text: &mut [u8]) -> Block
+fn answer(chip: Chip2, input: &[u8], size: usize, ended: bool, text: &mut [u8]) -> Block
     requires size_in_bounds { size ≤ length input.now }
     requires input_in_bounds { 6042 * record_count (length input.now) ≤ length text.old }
-    ensures desk_value { result.desk ≡ input_desk (due ended (take size input.now)) desk }
-    ensures text_after { take result.written text.new ≡ input_text (due ended (take size input.now)) desk }
+    ensures chip_value { result.chip ≡ input_chip (due ended (take size input.now)) chip }
+    ensures text_after { take result.written text.new ≡ input_text (due ended (take size input.now)) chip }
     ensures written_in_bounds { result.written ≤ length text.new }
 {
     let end = due_size(ended, size);
-    run_all(desk, &input[..end], text)
+    run_all(chip, &input[..end], text)
 }
 
 // How many of the bytes that have come are answered.
@@ -168,14 +164,14 @@ fn whole_size(size: usize) -> usize
     16 * (size / 16)
 }
 
-// Runs all the records of an input, with room for all their lines: chip and kept buffer after them, and their whole text.
-fn run_all(desk: Desk, input: &[u8], text: &mut [u8]) -> Block
+// Runs all the records of an input, with room for all their lines: the chip after them, and their whole text.
+fn run_all(chip: Chip2, input: &[u8], text: &mut [u8]) -> Block
     requires { 6042 * record_count (length input.now) ≤ length text.old }
-    ensures desk_value { result.desk ≡ input_desk input.now desk }
-    ensures text_after { take result.written text.new ≡ input_text input.now desk }
+    ensures chip_value { result.chip ≡ input_chip input.now chip }
+    ensures text_after { take result.written text.new ≡ input_text input.now chip }
     ensures written_in_bounds { result.written ≤ length text.new }
 {
-    run_block(desk, input, text)
+    run_block(chip, input, text)
 }
 
 // Writes the first bytes of a text to standard output.

@@ -2,11 +2,11 @@
 use Rattle.std.proofs.Common.{◌≡◌, ℕ, [], ◌∷◌, get_or, sym, refl, ap, ◌∙◌}
 use Rattle.control.specs.Reply.{reply_number}
 use Rattle.control.specs.declared.reply.Reply.{Reply}
-use Rattle.control.specs.declared.reply.Reply.TheVariants.{Done, TooHigh, Nothing, Forbidden, Lines, NoWord, Off, Filtered, Lost, Wait, Busy, Occupied, Short, Unholdable, Outside}
+use Rattle.control.specs.declared.reply.Reply.TheVariants.{Done, TooHigh, Nothing, Forbidden, Lines, NoWord, Off, Filtered, Lost, Wait, Busy, Outside}
 
 by_number : ℕ → Reply
 by_number n =
-    get_or (Done ∷ TooHigh ∷ Nothing ∷ Forbidden ∷ Lines ∷ NoWord ∷ Off ∷ Filtered ∷ Lost ∷ Outside ∷ Wait ∷ Busy ∷ Occupied ∷ Short ∷ Unholdable ∷ []) n Outside
+    get_or (Done ∷ TooHigh ∷ Nothing ∷ Forbidden ∷ Lines ∷ NoWord ∷ Off ∷ Filtered ∷ Lost ∷ Outside ∷ Wait ∷ Busy ∷ []) n Outside
 
 number_own : (r : Reply) → by_number (reply_number r) ≡ r
 unfolding by_number
@@ -21,9 +21,6 @@ number_own Filtered = refl
 number_own Lost = refl
 number_own Wait = refl
 number_own Busy = refl
-number_own Occupied = refl
-number_own Short = refl
-number_own Unholdable = refl
 number_own Outside = refl
 
 -- "Any two replies allowed by a promise are shown equal": replies of one number are one reply

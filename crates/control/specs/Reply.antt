@@ -1,8 +1,7 @@
--- Document 01, "Reply numbers": the table's columns "No." and "Value"; document 02, Wish 10: "12 shadows busy (hand-over only), 13 buffer shorter than
--- the set (both), 14 a saved field that its register can never hold (giving back only)".
+-- Document 01, "Reply numbers": the table's columns "No." and "Value".
 use Rattle.std.specs.Prelude.{ℕ, ◌^◌}
 use Rattle.control.specs.declared.reply.Reply.{Reply}
-use Rattle.control.specs.declared.reply.Reply.TheVariants.{Done, TooHigh, Nothing, Forbidden, Lines, NoWord, Off, Filtered, Lost, Wait, Busy, Occupied, Short, Unholdable, Outside}
+use Rattle.control.specs.declared.reply.Reply.TheVariants.{Done, TooHigh, Nothing, Forbidden, Lines, NoWord, Off, Filtered, Lost, Wait, Busy, Outside}
 
 -- a row's number and value
 pub record Row : Type 0 where
@@ -22,9 +21,6 @@ row_of Filtered v = record { number = 7; value = 0 }
 row_of Lost v = record { number = 8; value = 0 }
 row_of Wait v = record { number = 10; value = 0 }
 row_of Busy v = record { number = 11; value = 2 ^ 63 }
-row_of Occupied v = record { number = 12; value = 0 }
-row_of Short v = record { number = 13; value = 0 }
-row_of Unholdable v = record { number = 14; value = 0 }
 row_of Outside v = record { number = 15; value = 0 }
 
 -- a reply's number, and its value where nothing is read, sent or written

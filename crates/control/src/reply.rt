@@ -1,4 +1,4 @@
-// What an operation answers, and document 01's number and value for it, with those of document 02, Wish 10.
+// What an operation answers, and document 01's number and value for it.
 ghost use Rattle.std.specs.Prelude.{◌≡◌};
 ghost use Rattle.control.specs.Reply.{reply_number, reply_value};
 
@@ -15,10 +15,6 @@ pub enum Reply {
     Lost,
     Wait,
     Busy,
-    // Hand-over and giving back of the MultiKron II alone: shadows busy, a buffer too short, a field that no operation can leave.
-    Occupied,
-    Short,
-    Unholdable,
     Outside,
 }
 
@@ -38,9 +34,6 @@ pub fn number_of(reply: Reply) -> u64
         Reply::Lost => 8,
         Reply::Wait => 10,
         Reply::Busy => 11,
-        Reply::Occupied => 12,
-        Reply::Short => 13,
-        Reply::Unholdable => 14,
         Reply::Outside => 15,
     }
 }
@@ -64,9 +57,6 @@ pub fn value_of(reply: Reply) -> u64
         Reply::Lost => 0,
         Reply::Wait => 0,
         Reply::Busy => TWO_63,
-        Reply::Occupied => 0,
-        Reply::Short => 0,
-        Reply::Unholdable => 0,
         Reply::Outside => 0,
     }
 }

@@ -96,13 +96,13 @@ come_enough ops more =
     ∙ sym (to_come_lem ops)
 
 -- the first of these are sent
-pub sent_words : (ops : List Operation) → sent_of ops ≡ take (ledger_of ops).sent (words_of_all First (ledger_of ops).taken)
+pub sent_words_lem : (ops : List Operation) → sent_of ops ≡ take (ledger_of ops).sent (words_of_all First (ledger_of ops).taken)
 unfolding words_of_all
-sent_words ops = run_stream ops (reset_at 0 false) fresh [] fresh_agrees refl
+sent_words_lem ops = run_stream ops (reset_at 0 false) fresh [] fresh_agrees refl
 
 pub word_sum : (ops : List Operation) → sent_of ops ++ to_come (chip_of ops) ≡ words_of_all First (ledger_of ops).taken
 word_sum ops =
-    ap₂ (λ (x y : List ℕ). x ++ y) (sent_words ops) (to_come_lem ops)
+    ap₂ (λ (x y : List ℕ). x ++ y) (sent_words_lem ops) (to_come_lem ops)
     ∙ take-append-drop (ledger_of ops).sent (words_of_all First (ledger_of ops).taken)
 
 -- ---- 3. So their number is 16 for each Trace and 80 for each Resource sample taken

@@ -26,7 +26,7 @@ use Rattle.history.proofs.Leaves.{other_leaves, read_leaves}
 use Rattle.history.proofs.RoomLaws.{Armed, FirstNot, empty_room, first_not, lacks_left, lacks_in, needed, not_barred, quiet_write, sends_room, told_why, words_room}
 use Rattle.history.proofs.Fits.{always_fits, lacks}
 use Rattle.history.proofs.Steps.{agrees_step, send_leaves, send_number}
-use Rattle.history.proofs.Theorems.{agrees, fate_said, run_agrees, sent_words}
+use Rattle.history.proofs.Theorems.{agrees, fate_said, run_agrees, sent_words_lem}
 use Rattle.history.proofs.Triggers.{fate_by, or_true}
 
 -- ---- a trigger that waits
@@ -126,7 +126,7 @@ ledger_both (op ∷ before) after l = ledger_both before after (entry_of op l).l
 sent_length : (ops : List Operation) → length (sent_of ops) ≡ (ledger_of ops).sent
 sent_length ops =
     let l : Ledger = ledger_of ops in
-    ap length (sent_words ops)
+    ap length (sent_words_lem ops)
     ∙ length-take-le l.sent (words_of_all First l.taken) (subst (λ (n : ℕ). l.sent ≤ n) (sym (words_total First l.taken (agrees ops).good.sixteen)) (always_fits ops).1.1)
 
 -- j single sends are as one of j words

@@ -25,7 +25,6 @@ use Rattle.history.proofs.HeldLaws.{Sixteen}
 use Rattle.history.proofs.HoldsLaws.{Holds, holds_inside}
 use Rattle.history2.specs.Counts2.{Control2, Count, apart, field_in, flat, is_joined, joined, moding, no_control, no_count, paired, pairs}
 use Rattle.history2.specs.Ledger2.{Entry, Ledger, tells}
-use Rattle.history2.proofs.CountLaws2.{flat_length}
 use Rattle.history2.proofs.DueLaws2.{fields_of}
 
 abbrev pub control_of : Ledger → Control
@@ -103,9 +102,6 @@ module _ (ks : List Control2) (cs : List Count) (p : Paired ks cs) where
   count_at : (f : ℕ → Count → Count) (j : ℕ) → j < 8 → get_or (each_from 0 f cs) j no_count ≡ f j (get_or cs j no_count)
   count_at f j h = each_at no_count f cs j (rw p.eight h)
 
-  pub flat_sixteen : length (flat cs) ≡ 16
-  flat_sixteen = flat_length cs ∙ ap (λ (n : ℕ). 2 * n) p.eight
-
   -- a change of other fields than Mode's
   pub paired_controls : (f : ℕ → Control2 → Control2) → ((i : ℕ) (k : Control2) → (f i k).mode ≡ k.mode) → Paired (each_from 0 f ks) cs
   paired_controls f m = record { sixteen = each_length 0 f ks ∙ p.sixteen; eight = p.eight; small = small; same = λ j h. p.same j h ∙ ap (leb 8) (sym (mode_at (2 * j) (omega arith))) }
@@ -121,26 +117,22 @@ module _ (ks : List Control2) (cs : List Count) (p : Paired ks cs) where
   paired_counts f m =
       record { sixteen = p.sixteen; eight = each_length 0 f cs ∙ p.eight; small = p.small; same = λ j h. ap is_joined (count_at f j h) ∙ m j (get_or cs j no_count) ∙ p.same j h }
 
-  -- other fields, Mode's of four bits, and any numbers, with the pairing that the fields then ask for
-  pub paired_anew : (f : ℕ → Control2 → Control2) (g : ℕ → Count → Count) → ((i : ℕ) → i < 16 → (f i (get_or ks i no_control)).mode < 16) → let ks' = each_from 0 f ks in Paired ks' (each_from 0 (λ j c. paired (pairs ks' j) (g j c)) cs)
-  paired_anew f g small =
+  -- a write of Mode
+  pub paired_moded : (bits : ℕ) → let ks' = each_from 0 (moding bits) ks in Paired ks' (each_from 0 (λ j c. paired (pairs ks' j) c) cs)
+  paired_moded bits =
       record {
-        sixteen = each_length 0 f ks ∙ p.sixteen;
+        sixteen = each_length 0 (moding bits) ks ∙ p.sixteen;
         eight = each_length 0 _ cs ∙ p.eight;
-        small = λ i h. subst (λ (k : Control2). k.mode < 16) (sym (control_at f i h)) (small i h);
-        same = λ j h. ap is_joined (count_at (λ k c. paired (pairs (each_from 0 f ks) k) (g k c)) j h) ∙ asked (pairs (each_from 0 f ks) j) (g j (get_or cs j no_count));
+        small = λ i h. subst (λ (k : Control2). k.mode < 16) (sym (control_at (moding bits) i h)) (held i h (eqb (field_in bits i % 8) 0));
+        same = λ j h. ap is_joined (count_at (λ k c. paired (pairs (each_from 0 (moding bits) ks) k) c) j h) ∙ asked (pairs (each_from 0 (moding bits) ks) j) (get_or cs j no_count);
       }
     where
+      held : (i : ℕ) → i < 16 → (b : Bool) → cond b (get_or ks i no_control).mode (field_in bits i) < 16
+      held i h true = p.small i h
+      held i h false = mod-lt (bits / 16 ^ i) (omega arith)
+
       asked : (b : Bool) (c : Count) → is_joined (paired b c) ≡ b
       asked true (apart x y) = refl
       asked true (joined t) = refl
       asked false (apart x y) = refl
       asked false (joined t) = refl
-
-  -- a write of Mode
-  pub paired_moded : (bits : ℕ) → let ks' = each_from 0 (moding bits) ks in Paired ks' (each_from 0 (λ j c. paired (pairs ks' j) c) cs)
-  paired_moded bits = paired_anew (moding bits) (λ j c. c) (λ i h. held i h (eqb (field_in bits i % 8) 0))
-    where
-      held : (i : ℕ) → i < 16 → (b : Bool) → cond b (get_or ks i no_control).mode (field_in bits i) < 16
-      held i h true = p.small i h
-      held i h false = mod-lt (bits / 16 ^ i) (omega arith)

@@ -9,7 +9,7 @@ use mathlib.Core.List.{List, [], ◌∷◌, ◌++◌}
 use lib.Dec.{eqb}
 use lib.ListN.{length, drop, get_or}
 use borrow.Author.Tests.{eq-eqb}
-use Rattle.chip2.specs.Operation.{Operation, op_reset, op_write, op_read, op_ticks, op_nodes, op_events, op_send, op_fill, op_hand, op_back, step}
+use Rattle.chip2.specs.Operation.{Operation, op_reset, op_write, op_read, op_ticks, op_nodes, op_events, op_send, op_fill, step}
 use Rattle.chip2.specs.Place.{place_of, register_of}
 use Rattle.chip2.specs.declared.chip2.Chip2.{Chip2}
 use Rattle.chip2.proofs.AddressLaws.{place_test}
@@ -40,19 +40,16 @@ may_said address (op_nodes k levels) = refl
 may_said address (op_events mask) = refl
 may_said address op_send = refl
 may_said address (op_fill room) = refl
-may_said address (op_hand room) = refl
-may_said address (op_back saved) = refl
 
--- and so in plain words: any write may come but at 0, 1, 4 and from 96 to 127, and any read, ticks, events, sends,
--- hand-overs and givings-back
+-- and so in plain words: any write may come but at 0, 1, 4 and from 96 to 127, and any read, ticks, events and sends
 pub may_write : (address a bits lines : ℕ) → (a ≡ 0 → ⊥) → (a ≡ 1 → ⊥) → (a ≡ 4 → ⊥) → (96 ≤ a → a ≤ 127 → ⊥) → may_come address (op_write a bits lines) ≡ true
 unfolding after_one
 may_write address a bits lines n0 n1 n4 outside =
     ap (λ (b : Bool). eqb a address || not b) (not_barred a n0 n1 n4 outside) ∙ or_true (eqb a address)
 
-pub may_others : (address : ℕ) → ((a : ℕ) → may_come address (op_read a) ≡ true) × (((k levels : ℕ) → may_come address (op_ticks k levels) ≡ true) × (((k levels : ℕ) → may_come address (op_nodes k levels) ≡ true) × (((mask : ℕ) → may_come address (op_events mask) ≡ true) × ((may_come address op_send ≡ true) × (((room : ℕ) → may_come address (op_fill room) ≡ true) × (((room : ℕ) → may_come address (op_hand room) ≡ true) × ((saved : List ℕ) → may_come address (op_back saved) ≡ true)))))))
+pub may_others : (address : ℕ) → ((a : ℕ) → may_come address (op_read a) ≡ true) × (((k levels : ℕ) → may_come address (op_ticks k levels) ≡ true) × (((k levels : ℕ) → may_come address (op_nodes k levels) ≡ true) × (((mask : ℕ) → may_come address (op_events mask) ≡ true) × ((may_come address op_send ≡ true) × ((room : ℕ) → may_come address (op_fill room) ≡ true)))))
 unfolding after_one
-may_others address = (λ a. refl, (λ k levels. refl, (λ k levels. refl, (λ mask. refl, (refl, (λ room. refl, (λ room. refl, λ saved. refl)))))))
+may_others address = (λ a. refl, (λ k levels. refl, (λ k levels. refl, (λ mask. refl, (refl, λ room. refl)))))
 
 -- ---- what came in between, one operation after the other: it may come, and where it is the trigger asked again, it is not taken
 

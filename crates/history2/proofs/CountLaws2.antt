@@ -18,13 +18,10 @@ use Rattle.history2.specs.Counts2.{Control2, Count, apart, field_in, flat, grown
 
 -- ---- a register, field by field
 
--- the bits from the next field on
-pub next_in : (x i : ℕ) → x / 16 ^ i / 16 ≡ x / 16 ^ suc i
-next_in x i = div-div-eq-div-mul x (16 ^ i) 16 ∙ ap (λ (n : ℕ). x / n) (sym (pow-suc 16 i))
-
 bits_from : (x i : ℕ) → x / 16 ^ i ≡ x / 2 ^ (4 * i)
 bits_from x zero = refl
-bits_from x (suc i) = sym (next_in x i) ∙ ap (λ (n : ℕ). n / 16) (bits_from x i) ∙ sym (next_field x i)
+bits_from x (suc i) =
+    ap (λ (n : ℕ). x / n) (pow-suc 16 i) ∙ sym (div-div-eq-div-mul x (16 ^ i) 16) ∙ ap (λ (n : ℕ). n / 16) (bits_from x i) ∙ sym (next_field x i)
 
 pub field_in_lem : (x i : ℕ) → field_at x i ≡ field_in x i
 field_in_lem x i = ap (λ (n : ℕ). n % 16) (sym (bits_from x i))
@@ -53,9 +50,10 @@ module _ (g : Control2 → ℕ) where
         let old : ℕ = g k % 16 + 16 * packed g ks in
         let first : old % 16 ≡ g k % 16 = omega arith in
         let others : old / 16 ≡ packed g ks = omega arith in
+        let next : bits / 16 ^ i / 16 ≡ bits / 16 ^ suc i = div-div-eq-div-mul bits (16 ^ i) 16 ∙ ap (λ (n : ℕ). bits / n) (sym (pow-suc 16 i)) in
         ap₂ (λ (m n : ℕ). m + 16 * n)
         (ap (λ (n : ℕ). kept low n (field_in bits i)) first ∙ held (eqb (field_in bits i % low) 0) ∙ ap (λ (n : ℕ). n % 16) (sym (does i k)))
-        (ap₂ (written_fields (length ks) low) others (next_in bits i) ∙ written_from (suc i) ks)
+        (ap₂ (written_fields (length ks) low) others next ∙ written_from (suc i) ks)
       where
         held : (b : Bool) → cond b (g k % 16) (field_in bits i) ≡ cond b (g k) (field_in bits i) % 16
         held true = refl
@@ -141,7 +139,7 @@ put_values f x cs h = flat_each (λ i v. cond (f i) x v) (put_where f x) cs (λ 
     go false false c = (refl, refl)
 
 -- "A change of pairing itself alters neither half"
-pub paired_same : (b : Bool) (c : Count) → (low_of (paired b c) ≡ low_of c) × (high_of (paired b c) ≡ high_of c)
+paired_same : (b : Bool) (c : Count) → (low_of (paired b c) ≡ low_of c) × (high_of (paired b c) ≡ high_of c)
 paired_same true (apart a b) = (omega arith, omega arith)
 paired_same true (joined t) = (refl, refl)
 paired_same false (apart a b) = (refl, refl)

@@ -6,15 +6,13 @@ use mathlib.Core.Path.{◌≡◌, refl, sym, ◌∙◌, subst, transport⁻¹}
 use mathlib.Core.Bool.{Bool, true, false, cond, false≢true}
 use mathlib.Core.List.{List, [], ◌∷◌}
 use lib.Dec.{eqb, leb, ltb}
-use lib.ListN.{length}
 use borrow.Author.Tests.{eqb-true, ltb-true}
 use Rattle.samples.specs.declared.sample.Sample.{Sample}
 use Rattle.chip.proofs.ChipLaws.{either}
-use Rattle.chip2.specs.Operation.{Operation, op_reset, op_write, op_read, op_ticks, op_nodes, op_events, op_send, op_fill, op_hand, op_back}
+use Rattle.chip2.specs.Operation.{Operation, op_reset, op_write, op_read, op_ticks, op_nodes, op_events, op_send, op_fill}
 use Rattle.history.specs.Ledger.{Errors, Fate, Settings, configured, filtering, line_in, lost_cleared, turned, waited_one, waits_cleared, was_filtered, was_lost, was_off, was_taken, was_told}
 use Rattle.history.specs.Stream.{any_held}
-use Rattle.history2.specs.Counts2.{all_hold}
-use Rattle.history2.specs.Ledger2.{Entry, Ledger, after_fate, by_fate, by_range, data_in, entry_of, fate_in, give_back, hand_over, held, ledger_from, read_in, read_low, reset_at, saved_controls, sent_more, tells, triggered, vacant, with_errors, with_settings, with_shadows, with_stream, written, written_low}
+use Rattle.history2.specs.Ledger2.{Entry, Ledger, after_fate, by_fate, by_range, data_in, entry_of, fate_in, held, ledger_from, read_in, read_low, reset_at, sent_more, tells, triggered, vacant, with_errors, with_settings, with_shadows, with_stream, written, written_low}
 use Rattle.history2.specs.Walk2.{after_all, after_one}
 use Rattle.history2.proofs.Steps2.{send_leaves}
 
@@ -86,14 +84,6 @@ module _ (P : Ledger → Bool → Type 0) (l : Ledger) (b : Bool) (h : (m : Ledg
       (either Leaves (eqb a 8) _ _ (other refl refl refl refl refl)
       (either Leaves (eqb a 10) _ _ (other refl refl refl refl refl) (other refl refl refl refl refl))))))))))
 
-  -- hand-over and giving back leave them
-  pub hand_leaves : (room : ℕ) → Leaves (hand_over room l)
-  hand_leaves room = either Leaves (any_held (held l)) _ _ (other refl refl refl refl refl) (either Leaves (leb 88 room) _ _ (other refl refl refl refl refl) (other refl refl refl refl refl))
-
-  pub back_leaves : (saved : List ℕ) → Leaves (give_back saved l)
-  back_leaves saved =
-      either Leaves (leb 88 (length saved)) _ _ (either Leaves (all_hold (saved_controls saved l)) _ _ (other refl refl refl refl refl) (other refl refl refl refl refl)) (other refl refl refl refl refl)
-
   -- with the yes or no as it was: no waits (w), no losses (o), another Filter (f) where that is written, what a trigger's fate leaves (t) where there is one
   pub other_leaves : (bits : ℕ) → P (with_errors (waits_cleared l.errors) l) b → P (with_errors (lost_cleared l.errors) l) b → (a lines : ℕ) → eqb a 0 ≡ false → eqb a 1 ≡ false → (eqb a 4 ≡ true → P (with_settings (filtering bits l.settings) l.narrow l) b) → (ltb 127 a ≡ false → leb 96 a ≡ true → line_in lines < 8 → P (after_fate (fate_in (leb 112 a) (a % 16) l) (leb 112 a) (line_in lines) bits l) b) → Leaves (written a bits lines l)
   unfolding written written_low
@@ -134,8 +124,6 @@ module _ (P : Ledger → Bool → Type 0) (l : Ledger) (b : Bool) (h : (m : Ledg
   one_leaves reset write r v w n (op_events mask) = other refl refl refl refl refl
   one_leaves reset write r v w n op_send = subst (λ (m : Ledger). P m b) (sym (send_leaves l)) (n 1)
   one_leaves reset write r v w n (op_fill room) = n room
-  one_leaves reset write r v w n (op_hand room) = hand_leaves room
-  one_leaves reset write r v w n (op_back saved) = back_leaves saved
 
 -- and a list
 pub all_leave : (P : Ledger → Bool → Type 0) (f : Operation → Bool → Bool) → ((op : Operation) (l : Ledger) (b : Bool) → P l b → P (entry_of op l).ledger (f op b)) → (ops : List Operation) (l : Ledger) (b : Bool) → P l b → P (ledger_from l ops) (after_all f b ops)

@@ -6,8 +6,6 @@ pub mod CountLaws2
 pub mod Counters2
 pub mod DueLaws2
 pub mod Fits2
-pub mod HandOver2
-pub mod Hands2
 pub mod Leaves2
 pub mod Quiet2
 pub mod Reads2

@@ -11,7 +11,7 @@ use lib.ListN.{length, replicate}
 use lib.Seq.{length-take-le}
 use borrow.Author.Tests.{eqb-true, eqb-false, eq-eqb}
 use Rattle.samples.specs.declared.edition.Edition.TheVariants.{Second}
-use Rattle.chip2.specs.Operation.{Operation, op_reset, op_write, op_read, op_ticks, op_nodes, op_events, op_send, op_fill, op_hand, op_back, step}
+use Rattle.chip2.specs.Operation.{Operation, op_reset, op_write, op_read, op_ticks, op_nodes, op_events, op_send, op_fill, step}
 use Rattle.chip2.specs.declared.chip2.Chip2.{Chip2}
 use Rattle.history.specs.Ledger.{Fate, fate_number, line_in, was_taken, was_told}
 use Rattle.history.specs.Stream.{total_of, unsent_of, words_of_all}
@@ -25,9 +25,9 @@ use Rattle.history2.specs.Waiting2.{Between, enough, may_come, sent_by, words_in
 use Rattle.history2.specs.Walk2.{after_one}
 use Rattle.history2.proofs.Agrees2.{Agrees}
 use Rattle.history2.proofs.Fits2.{always_fits, lacks}
-use Rattle.history2.proofs.Leaves2.{Kin, back_leaves, hand_leaves, kin, other_leaves, read_leaves}
+use Rattle.history2.proofs.Leaves2.{Kin, kin, other_leaves, read_leaves}
 use Rattle.history2.proofs.Steps2.{agrees_step, send_leaves, send_number}
-use Rattle.history2.proofs.Theorems2.{agrees, fate_said, run_agrees, sent_words}
+use Rattle.history2.proofs.Theorems2.{agrees, fate_said, run_agrees, sent_words_lem}
 
 -- ---- a trigger that waits
 
@@ -86,8 +86,6 @@ module _ (address : ℕ) (from : 96 ≤ address) (upto : address ≤ 127) (l : L
       subst (λ (m : Ledger). Quiet l m (cond (eqb (step op_send c).number 0) 1 0)) (sym (send_leaves l))
       (refl, (refl, ap (λ (x : ℕ). l.sent + x) (sym (send_counts l c agree))))
   one_quiet (op_fill room) may un = (refl, (refl, ap (λ (x : ℕ). l.sent + x) (sym (agrees_step (op_fill room) l c agree).value)))
-  one_quiet (op_hand room) may un = hand_leaves (λ m b. Quiet l m 0) l false same room
-  one_quiet (op_back saved) may un = back_leaves (λ m b. Quiet l m 0) l false same saved
 
 -- and a list of such operations
 pub all_quiet : (address : ℕ) → 96 ≤ address → address ≤ 127 → (ops : List Operation) (l : Ledger) (c : Chip2) → Agrees l c → Armed (address % 16) l.settings → Between address c ops → Quiet l (ledger_from l ops) (words_in c ops)
@@ -132,7 +130,7 @@ ledger_both (op ∷ before) after l = ledger_both before after (entry_of op l).l
 pub sent_length : (ops : List Operation) → length (sent_of ops) ≡ (ledger_of ops).sent
 sent_length ops =
     let l : Ledger = ledger_of ops in
-    ap length (sent_words ops)
+    ap length (sent_words_lem ops)
     ∙ length-take-le l.sent (words_of_all Second l.taken) (subst (λ (n : ℕ). l.sent ≤ n) (sym (words_total Second l.taken (agrees ops).good.sixteen)) (always_fits ops).1.1)
 
 -- j single sends are as one of j words

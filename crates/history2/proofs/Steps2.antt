@@ -14,8 +14,7 @@ use Rattle.queue.specs.declared.queue.Queue.{Queue}
 use Rattle.control.specs.declared.reply.Reply.TheVariants.{NoWord}
 use Rattle.counters.specs.declared.bank.Bank.{Bank}
 use Rattle.chip2.specs.Chip2.{after_nodes, after_ticks, done, external_events, node_ticks, read, replied, send, send_into, send_now, timestamp_ticks, with_bank, with_phase, with_queue, with_stamp, write}
-use Rattle.chip2.specs.HandOver.{give_back, hand_over}
-use Rattle.chip2.specs.Operation.{Operation, op_reset, op_write, op_read, op_ticks, op_nodes, op_events, op_send, op_fill, op_hand, op_back, step}
+use Rattle.chip2.specs.Operation.{Operation, op_reset, op_write, op_read, op_ticks, op_nodes, op_events, op_send, op_fill, step}
 use Rattle.chip2.specs.Told.{Told}
 use Rattle.chip2.specs.declared.chip2.Chip2.{Chip2}
 use Rattle.history.specs.Stream.{total_of, words_of_all}
@@ -25,7 +24,6 @@ use Rattle.history2.specs.Counts2.{node_ticks as Ledger·nodeTicks}
 use Rattle.history2.specs.Ledger2.{Entry, Ledger, data_in, entry_of, happened, left, sent_more, tells, with_clocks, with_stream}
 use Rattle.history2.proofs.Agrees2.{Agrees, Good, Kept, chip_for, kept, kept_guarded}
 use Rattle.history2.proofs.Counters2.{counted_paired, external_happened, node_happened, stamp_happened}
-use Rattle.history2.proofs.Hands2.{back_kept, hand_kept}
 use Rattle.history2.proofs.Reads2.{read_kept}
 use Rattle.history2.proofs.Writes2.{reset_good, reset_record, write_kept}
 
@@ -97,7 +95,7 @@ module _ (l : Ledger) (q : Queue) (g : Good l q) where
 
 -- every operation on a record that a ledger leaves
 step_kept : (op : Operation) (l : Ledger) (q : Queue) → Good l q → Kept (entry_of op l) (step op (chip_for l q))
-unfolding entry_of write read timestamp_ticks node_ticks send send_into hand_over give_back
+unfolding entry_of write read timestamp_ticks node_ticks send send_into
 step_kept op_reset l q g = kept 0 0 _ empty_queue _ (reset_good 0) (reset_record 0) refl refl
 step_kept (op_write address bits lines) l q g = kept_guarded l q _ _ g (write_kept l q g (data_in bits l) lines address)
 step_kept (op_read address) l q g = kept_guarded l q _ _ g (read_kept l q g address)
@@ -106,8 +104,6 @@ step_kept (op_nodes k levels) l q g = kept_guarded l q _ _ g (nodes_kept l q g k
 step_kept (op_events mask) l q g = events_kept l q g mask
 step_kept op_send l q g = kept_guarded l q _ _ g (send_kept l q g)
 step_kept (op_fill room) l q g = kept_guarded l q _ _ g (fill_kept l q g room)
-step_kept (op_hand room) l q g = kept_guarded l q _ _ g (hand_kept l q g room)
-step_kept (op_back saved) l q g = kept_guarded l q _ _ g (back_kept l q g saved)
 
 pub agrees_step : (op : Operation) (l : Ledger) (c : Chip2) → Agrees l c → Kept (entry_of op l) (step op c)
 agrees_step op l c a = subst (λ (x : Chip2). Kept (entry_of op l) (step op x)) (sym a.is) (step_kept op l a.queue a.good)

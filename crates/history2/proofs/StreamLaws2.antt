@@ -13,16 +13,16 @@ use Rattle.queue.specs.Queue.{send_buffer}
 use Rattle.queue.specs.declared.queue.Queue.{Queue}
 use Rattle.chip.proofs.ChipLaws.{either as chip·either}
 use Rattle.chip2.specs.Chip2.{sent_buffer}
-use Rattle.chip2.specs.Operation.{Operation, op_reset, op_write, op_read, op_ticks, op_nodes, op_events, op_send, op_fill, op_hand, op_back, step}
+use Rattle.chip2.specs.Operation.{Operation, op_reset, op_write, op_read, op_ticks, op_nodes, op_events, op_send, op_fill, step}
 use Rattle.chip2.specs.declared.chip2.Chip2.{Chip2}
 use Rattle.history.specs.Ledger.{Fate, was_filtered, was_lost, was_off, was_taken, was_told}
 use Rattle.history.specs.Stream.{words_of_all}
 use Rattle.history.proofs.HeldLaws.{words_more, words_total}
 use Rattle.history.proofs.SendLaws.{fill_adds, send_adds, send_comes}
-use Rattle.history2.specs.Ledger2.{Ledger, after_fate, by_range, data_in, entry_of, fate_in, left, sample_in, vacant, written, written_low}
+use Rattle.history2.specs.Ledger2.{Ledger, after_fate, by_range, data_in, entry_of, fate_in, left, read_in, sample_in, vacant, written, written_low}
 use Rattle.history2.specs.Run2.{come_within, stream_after}
 use Rattle.history2.proofs.Agrees2.{Agrees, for_inside}
-use Rattle.history2.proofs.Leaves2.{Kin, back_leaves, hand_leaves, kin, read_leaves, write_leaves}
+use Rattle.history2.proofs.Leaves2.{Kin, kin, read_leaves, write_leaves}
 use Rattle.history2.proofs.Steps2.{agrees_step, send_leaves, send_number, send_value}
 
 -- ---- the words sent so far
@@ -30,10 +30,6 @@ use Rattle.history2.proofs.Steps2.{agrees_step, send_leaves, send_number, send_v
 -- a ledger that has the same ones
 abbrev Stays : Ledger → Ledger → Type 0
 Stays l m = take m.sent (words_of_all Second m.taken) ≡ take l.sent (words_of_all Second l.taken)
-
--- one with the same samples and words sent has
-stays : (l m : Ledger) → Kin l m → Stays l m
-stays l = kin (λ s w x ss n. take n (words_of_all Second ss) ≡ take l.sent (words_of_all Second l.taken)) l refl
 
 -- what a fate leaves of the stream
 fate_stream : (f : Fate) (r : Bool) (line bits : ℕ) (l : Ledger) → l.sent ≤ length (words_of_all Second l.taken) → Stays l (after_fate f r line bits l)
@@ -48,10 +44,17 @@ fate_stream was_taken r line bits l h =
 -- only the write at address 0 is a software reset
 write_stream : (a bits lines : ℕ) (l : Ledger) → eqb a 0 ≡ false → l.sent ≤ length (words_of_all Second l.taken) → Stays l (written a bits lines l).ledger
 write_stream a bits lines l e h =
-    write_leaves (λ m reset. reset ≡ false → Stays l m) l false (λ m k n. stays l m k) bits (λ n. refl) (λ n. refl) (λ n. refl)
+    write_leaves (λ m reset. reset ≡ false → Stays l m) l false (λ m k n. stays m k) bits (λ n. refl) (λ n. refl) (λ n. refl)
     (λ r level line small n. fate_stream (fate_in r level l) r line bits l h)
     true false (λ n. absurd (false≢true (sym n))) (λ n. refl) a lines
     (rw e (chip·either (λ b. b ≡ false) (eqb a 1) false false refl refl))
+  where
+    stays : (m : Ledger) → Kin l m → Stays l m
+    stays = kin (λ s w x ss n. take n (words_of_all Second ss) ≡ take l.sent (words_of_all Second l.taken)) l refl
+
+read_stream : (a : ℕ) (l : Ledger) → Stays l (read_in a l).ledger
+read_stream a l =
+    read_leaves (λ m b. Stays l m) l false (kin (λ s w x ss n. take n (words_of_all Second ss) ≡ take l.sent (words_of_all Second l.taken)) l refl) a refl
 
 module _ (l : Ledger) (c : Chip2) (a : Agrees l c) where
   sent_within : l.sent ≤ length (words_of_all Second l.taken)
@@ -80,14 +83,12 @@ module _ (l : Ledger) (c : Chip2) (a : Agrees l c) where
       go : (b : Bool) → eqb address 0 ≡ b → cond b [] ws ≡ take (written address (data_in bits l) lines l).ledger.sent (words_of_all Second (written address (data_in bits l) lines l).ledger.taken)
       go true t = ap (λ (x : ℕ). take (written x (data_in bits l) lines l).ledger.sent (words_of_all Second (written x (data_in bits l) lines l).ledger.taken)) (sym (eqb-true address 0 t))
       go false t = e ∙ sym (write_stream address (data_in bits l) lines l t sent_within)
-  stream_step (op_read address) ws e = e ∙ sym (read_leaves (λ m b. Stays l m) l false (stays l) address refl)
+  stream_step (op_read address) ws e = e ∙ sym (read_stream address l)
   stream_step (op_ticks k levels) ws e = e
   stream_step (op_nodes k levels) ws e = e
   stream_step (op_events mask) ws e = e
   stream_step op_send ws e = ap (λ (x : List ℕ). x ++ cond (eqb (step op_send c).number 0) ((step op_send c).value ∷ []) []) e ∙ send_words_lem
   stream_step (op_fill room) ws e = ap (λ (x : List ℕ). x ++ take (step (op_fill room) c).value (sent_buffer c (replicate room 0))) e ∙ fill_words room
-  stream_step (op_hand room) ws e = e ∙ sym (hand_leaves (λ m b. Stays l m) l false (stays l) room)
-  stream_step (op_back saved) ws e = e ∙ sym (back_leaves (λ m b. Stays l m) l false (stays l) saved)
 
 -- ---- the words still to come
 

@@ -1,51 +1,43 @@
 -- Demand 3 for the MultiKron II, for every list of operations from a fresh chip, and its settings after it. The proof is one relation between ledger and record
--- (`Agrees`), kept by every operation (`Steps2`), and a fold; for parts 8 and 9 also what each operation leaves of the ledger (`Walks2`), and for
--- part 12 that a saved set is read back from its bytes. Assumes nothing of the list, but for part 9: that it hasn't asked for discard.
+-- (`Agrees`), kept by every operation (`Steps2`), and a fold; for parts 8 and 9 also what each operation leaves of the ledger (`Walks2`). Assumes nothing of
+-- the list, but for part 9: that it hasn't asked for discard.
 use Prim.Native.Nat.{ℕ, suc, ◌+◌, ◌*◌, ◌%◌, ◌^◌, ◌≤◌, ◌<◌}
 use native.Mathlib.Nat.{mod-eq_of_lt}
 use native.Mathlib.Omega.{arith}
 use mathlib.Core.Path.{◌≡◌, refl, sym, ap, ap₂, ◌∙◌, subst}
 use mathlib.Core.Bool.{Bool, true, false, cond}
-use mathlib.Core.List.{List, [], ◌∷◌, ◌++◌, map}
+use mathlib.Core.List.{List, [], ◌∷◌, ◌++◌}
 use lib.Dec.{eqb, leb}
-use lib.ListN.{length, take, drop, get_or, length-append, length-drop, replicate, take-append-drop}
-use lib.Seq.{drop_at, take_all}
+use lib.ListN.{length, take, drop, get_or, take-append-drop}
+use lib.Seq.{take_all}
 use borrow.Author.Tests.{lt-ltb}
-use Rattle.samples.specs.Layout.{counter_widths}
 use Rattle.samples.specs.declared.edition.Edition.TheVariants.{Second}
-use Rattle.samples.proofs.RoundTrip.{within_length}
 use Rattle.counters2.specs.Fields.{field_at}
-use Rattle.saved.specs.Saved.{saved_bytes, set_of}
-use Rattle.saved.specs.declared.saved.Saved.{Saved}
-use Rattle.saved.proofs.SavedLaws.{saved_length}
 use Rattle.queue.specs.Queue.{empty_queue}
 use Rattle.control.specs.declared.control.Control.{Control}
 use Rattle.chip2.specs.Chip2.{fresh, inside}
-use Rattle.chip2.specs.HandOver.{handed_buffer, saved_set}
-use Rattle.chip2.specs.Operation.{Operation, op_write, op_hand, step}
+use Rattle.chip2.specs.Operation.{Operation, op_write, step}
 use Rattle.chip2.specs.Shape.{Shaped}
 use Rattle.chip2.specs.declared.chip2.Chip2.{Chip2}
 use Rattle.chip2.specs.Left.{Leavable}
 use Rattle.chip2.proofs.Left.{fresh_left, keeps_left}
 use Rattle.chip2.proofs.Bounds.{fresh_shaped, keeps_shaped}
 use Rattle.chip2.proofs.Bounds.{never_15 as inside-never-15}
-use Rattle.chip2.proofs.HandOver.{hand_saves, saved_set_lem, when_done}
 use Rattle.chip2.proofs.Replies.{waiting_never_8}
 use Rattle.history.specs.Ledger.{Fate, fate_number, line_in}
-use Rattle.history.specs.Stream.{Every, Unmarked, any_held, total_of, words_of_all}
+use Rattle.history.specs.Stream.{Every, Unmarked, total_of, words_of_all}
 use Rattle.history.proofs.ControlLaws.{lowest_turned}
 use Rattle.history.proofs.CountLaws.{wrapped}
 use Rattle.history.proofs.HeldLaws.{words_left, words_total}
 use Rattle.history.proofs.HoldsLaws.{holds_left}
-use Rattle.history2.specs.Counts2.{Count, Holding, apart, cleared, flat, high_of, is_joined, joined, low_of, no_count}
-use Rattle.history2.specs.Ledger2.{Entry, Ledger, SavedIn, by_fate, data_in, entry_of, fate_in, hand_over, handed_in, held, ledger_from, ledger_of, reset_at, tells, triggered, written}
+use Rattle.history2.specs.Counts2.{Count, Holding, apart, flat, high_of, is_joined, joined, low_of, no_count}
+use Rattle.history2.specs.Ledger2.{Entry, Ledger, by_fate, data_in, entry_of, fate_in, ledger_from, ledger_of, reset_at, tells, triggered, written}
 use Rattle.history2.specs.Run2.{chip_of, come_within, run_from, sent_from, sent_of, to_come}
 use Rattle.history2.specs.Walk2.{discard_after, discard_of, narrow_of, read_wait_of, sampling_of, wait_of}
 use Rattle.history2.proofs.Addresses2.{range_trigger}
 use Rattle.history2.proofs.Agrees2.{Agrees, chip_for, control_of, for_inside}
 use Rattle.history2.proofs.CountLaws2.{flat_high, flat_low, packed_field}
 use Rattle.history2.proofs.DueLaws2.{fields_of}
-use Rattle.history2.proofs.Hands2.{cleared_values, counter_same, number_same}
 use Rattle.history2.proofs.Leaves2.{all_leave}
 use Rattle.history2.proofs.Steps2.{agrees_step}
 use Rattle.history2.proofs.StreamLaws2.{come_words, stream_step}
@@ -118,13 +110,13 @@ come_enough ops more =
     ∙ sym (to_come_lem ops)
 
 -- the first of these are sent
-pub sent_words : (ops : List Operation) → sent_of ops ≡ take (ledger_of ops).sent (words_of_all Second (ledger_of ops).taken)
+pub sent_words_lem : (ops : List Operation) → sent_of ops ≡ take (ledger_of ops).sent (words_of_all Second (ledger_of ops).taken)
 unfolding words_of_all
-sent_words ops = run_stream ops (reset_at 0) fresh [] fresh_agrees refl
+sent_words_lem ops = run_stream ops (reset_at 0) fresh [] fresh_agrees refl
 
 pub word_sum : (ops : List Operation) → sent_of ops ++ to_come (chip_of ops) ≡ words_of_all Second (ledger_of ops).taken
 word_sum ops =
-    ap₂ (λ (x y : List ℕ). x ++ y) (sent_words ops) (to_come_lem ops)
+    ap₂ (λ (x y : List ℕ). x ++ y) (sent_words_lem ops) (to_come_lem ops)
     ∙ take-append-drop (ledger_of ops).sent (words_of_all Second (ledger_of ops).taken)
 
 -- ---- 3. So their number is 20 for each Trace and 84 for each Resource sample taken
@@ -241,60 +233,20 @@ never_15 ops op = inside-never-15 op (chip_of ops) (always_inside ops)
 
 -- ---- 11. And its lists have the lengths and widths that their types give
 
--- what every operation keeps, a list keeps
-pub run_keeps : (P : Chip2 → Type 0) → ((op : Operation) (c : Chip2) → P c → P (step op c).chip) → (ops : List Operation) (c : Chip2) → P c → P (run_from c ops)
-unfolding run_from
-run_keeps P k [] c h = h
-run_keeps P k (op ∷ ops) c h = run_keeps P k ops (step op c).chip (k op c h)
-
 pub always_shaped : (ops : List Operation) → Shaped (chip_of ops)
-always_shaped ops = run_keeps Shaped keeps_shaped ops fresh fresh_shaped
+unfolding run_from
+always_shaped ops = go ops fresh fresh_shaped
+  where
+    go : (os : List Operation) (c : Chip2) → Shaped c → Shaped (run_from c os)
+    go [] c s = s
+    go (op ∷ os) c s = go os (step op c).chip (keeps_shaped op c s)
 
 -- ---- Nor do Enable, Mode and Clock Select ever hold a field that no operation can leave
 
 pub always_left : (ops : List Operation) → Leavable (chip_of ops).fields
-always_left ops = run_keeps (λ c. Leavable c.fields) keeps_left ops fresh fresh_left
-
--- ---- 12. Wish 10: a hand-over that is done, so with no Resource sample held and room for the set, puts the counters and their three registers into the lent
--- buffer as the list says them, and leaves sixteen counters of 0
-
--- a hand-over by its two tests, and what they say where it is done
-hand_entry : Ledger → Bool → Bool → Entry
-hand_entry l b s = cond b (tells 12 0 l) (cond s (tells 0 0 (handed_in l)) (tells 13 0 l))
-
-hand_free : (l : Ledger) (room : ℕ) → (entry_of (op_hand room) l).number ≡ 0 → (any_held (held l) ≡ false) × (leb 88 room ≡ true)
-unfolding entry_of hand_entry
-hand_free l room = go (any_held (held l)) (leb 88 room)
+unfolding run_from
+always_left ops = go ops fresh fresh_left
   where
-    go : (b s : Bool) → (hand_entry l b s).number ≡ 0 → (b ≡ false) × (s ≡ true)
-    go true s e = absurd (omega arith)
-    go false true e = (refl, refl)
-    go false false e = absurd (omega arith)
-
-pub saved_said : (ops : List Operation) (out : List ℕ) → (step (op_hand (length out)) (chip_of ops)).number ≡ 0 → SavedIn (ledger_of ops) out (handed_buffer (chip_of ops) out)
-unfolding set_of
-saved_said ops out e =
-    let c : Chip2 = chip_of ops in
-    let s : Saved = saved_set c in
-    let shape : Shaped c = always_shaped ops in
-    let handed = when_done (length out) c e in
-    let is : handed_buffer c out ≡ saved_bytes s ++ drop 88 out = hand_saves c shape out handed in
-    let sixteen : length s.values ≡ 16 = within_length counter_widths s.values shape.values in
-    let set : set_of (handed_buffer c out) ≡ s = saved_set_lem c shape out handed in
-    record {
-      counters = λ i h. counter_same _ i h ∙ ap (λ (x : Saved). get_or x.values i 0) set ∙ part ops (λ d. get_or d.bank.values i 0);
-      enable = number_same 8 64 _ ∙ ap (λ (x : Saved). x.fields.enable) set ∙ part ops (λ d. d.fields.enable);
-      mode = number_same 8 72 _ ∙ ap (λ (x : Saved). x.fields.mode) set ∙ part ops (λ d. d.fields.mode);
-      select = number_same 8 80 _ ∙ ap (λ (x : Saved). x.fields.select) set ∙ part ops (λ d. d.fields.select);
-      long = ap length is ∙ length-append (saved_bytes s) (drop 88 out) ∙ omega (arith, saved_length s sixteen, length-drop 88 out, handed.places);
-      rest = ap (drop 88) is ∙ drop_at (saved_bytes s) (drop 88 out) 88 (saved_length s sixteen);
-    }
-
--- "a clearing of the sixteen counters alone": every count is written anew with 0, and what is paired stays so
-pub handed_counts : (ops : List Operation) (room : ℕ) → (entry_of (op_hand room) (ledger_of ops)).number ≡ 0 → let cs = (entry_of (op_hand room) (ledger_of ops)).ledger.counts in (cs ≡ map cleared (ledger_of ops).counts) × (flat cs ≡ replicate 16 0)
-unfolding entry_of hand_entry
-handed_counts ops room e =
-    let l : Ledger = ledger_of ops in
-    let tests = hand_free l room e in
-    let is : (hand_over room l).ledger.counts ≡ map cleared l.counts = ap₂ (λ (b s : Bool). (hand_entry l b s).ledger.counts) tests.0 tests.1 in
-    (is, ap flat is ∙ sym (cleared_values l.controls l.counts (agrees ops).good.paired))
+    go : (os : List Operation) (c : Chip2) → Leavable c.fields → Leavable (run_from c os).fields
+    go [] c h = h
+    go (op ∷ os) c h = go os (step op c).chip (keeps_left op c h)

@@ -1,5 +1,5 @@
 -- A trigger does to the MultiKron II what its fate by the list says. By the laws of the stream over the edition, and fate by fate. Assumes nothing.
-use Prim.Native.Nat.{ℕ, ◌%◌, ◌^◌, ◌<◌}
+use Prim.Native.Nat.{ℕ, ◌*◌, ◌%◌, ◌^◌, ◌<◌}
 use mathlib.Core.Path.{◌≡◌, refl, sym, ap, ap₂, ◌∙◌, subst}
 use mathlib.Core.Bool.{Bool, true, false, cond, ◌&&◌, ◌||◌}
 use mathlib.Core.List.{List, [], ◌∷◌, ◌++◌}
@@ -32,7 +32,8 @@ use Rattle.history.proofs.HoldsLaws.{Holds, holds_busy, holds_copied, holds_full
 use Rattle.history.proofs.Triggers.{Roomy, chip_fate, fate_by_lem, header_same, or_left, or_right}
 use Rattle.history2.specs.Counts2.{flat}
 use Rattle.history2.specs.Ledger2.{Ledger, after_fate, by_fate, fate_in, held, sample_in, tells, triggered, with_errors}
-use Rattle.history2.proofs.Agrees2.{Good, Kept, chip_for, control_of, flat_sixteen, kept}
+use Rattle.history2.proofs.Agrees2.{Good, Kept, chip_for, control_of, kept}
+use Rattle.history2.proofs.CountLaws2.{flat_length}
 use Rattle.history2.proofs.DueLaws2.{fields_of}
 
 module _ (l : Ledger) (q : Queue) (g : Good l q) where
@@ -77,7 +78,7 @@ module _ (l : Ledger) (q : Queue) (g : Good l q) where
       twice false = refl
 
   sample_sixteen : (r : Bool) (line bits : ℕ) → length (sample_in r line bits l).counters ≡ 16
-  sample_sixteen true line bits = flat_sixteen l.controls l.counts g.paired
+  sample_sixteen true line bits = flat_length l.counts ∙ ap (λ (n : ℕ). 2 * n) g.paired.eight
   sample_sixteen false line bits = refl
 
   -- the shadows may be written by a Resource trigger that finds room

@@ -1,7 +1,7 @@
 -- Document 02, Wish 9: "a counter is its last written number plus events since, modulo 2^32 or 2^64 for a pair". The sixteen counters of the MultiKron II as
 -- a list of operations tells of them: unbounded numbers, and the codes of document 001, Tables B5 to B7, as numbers. Quotations are of Wish 9 where nothing else
--- is named; "DECISIONS" is docs/DECISIONS.md, "The MultiKron II" and "Hand-over and giving back".
-use Rattle.std.specs.Prelude.{ℕ, zero, suc, ◌+◌, ◌-◌, ◌*◌, ◌/◌, ◌%◌, ◌^◌, ◌≡◌, Bool, true, false, cond, not, ◌&&◌, ◌||◌, List, [], ◌∷◌, eqb, leb, get_or}
+-- is named; "DECISIONS" is docs/DECISIONS.md, "The MultiKron II".
+use Rattle.std.specs.Prelude.{ℕ, suc, ◌+◌, ◌-◌, ◌*◌, ◌/◌, ◌%◌, ◌^◌, ◌≡◌, Bool, true, false, cond, ◌&&◌, ◌||◌, List, [], ◌∷◌, eqb, leb, get_or}
 use Rattle.history.specs.Ledger.{each_from, is_set}
 
 -- ---- what is kept
@@ -177,35 +177,3 @@ due_to due ks i = due i (get_or ks i no_control)
 
 abbrev pub counted : (ℕ → Control2 → ℕ) → List Control2 → List Count → List Count
 counted due ks cs = each_from 0 (λ j c. grown_by (due_to due ks (2 * j)) (due_to due ks (suc (2 * j))) c) cs
-
--- ---- hand-over and giving back, by Wish 10
-
--- "In demand 3 a hand-over is a clearing of the sixteen counters alone": zero is written to both halves
-abbrev pub cleared : Count → Count
-cleared (apart a b) = apart (anew 0) (anew 0)
-cleared (joined t) = joined (anew 0)
-
--- "disable all counters"; DECISIONS: "every Enable field is 0001. Mode, Clock Select .. stay"
-abbrev pub disabled : Control2 → Control2
-disabled k = record { enable = 1; mode = k.mode; select = k.select }
-
--- "low byte first": the number of so many bytes from a place on; a byte is below 256
-unfoldable pub number_in : ℕ → ℕ → List ℕ → ℕ
-number_in zero at bytes = 0
-number_in (suc n) at bytes = get_or bytes at 0 % 256 + 256 * number_in n (suc at) bytes
-
--- "88 bytes: counters 0 to 15, Enable, Mode, Clock Select as held": the fields of counter i, and counters 2j and 2j + 1
-abbrev pub saved_control : List ℕ → ℕ → Control2
-saved_control saved i =
-    record { enable = field_in (number_in 8 64 saved) i; mode = field_in (number_in 8 72 saved) i; select = field_in (number_in 8 80 saved) i }
-
-abbrev pub saved_count : List ℕ → ℕ → Count
-saved_count saved j = apart (anew (number_in 4 (8 * j) saved)) (anew (number_in 4 (8 * j + 4) saved))
-
--- "14 a saved field that its register can never hold": none of a list is one
-abbrev pub can_hold : Control2 → Bool
-can_hold k = not (eqb (k.enable % 4) 0) && (not (eqb (k.mode % 8) 0) && not (eqb (k.select % 8) 0))
-
-unfoldable pub all_hold : List Control2 → Bool
-all_hold [] = true
-all_hold (k ∷ ks) = can_hold k && all_hold ks

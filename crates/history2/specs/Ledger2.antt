@@ -1,15 +1,14 @@
 -- Demand 3 for the MultiKron II; document 01, "Triggers and the queue": "For demand 3 the list decides alone". What a list of operations says, by a fold from
 -- the oldest operation: unbounded numbers and lists; nothing of the chip's record is in it, and the chip is not run. It goes by addresses and bits as
 -- numbers, and shares with the chip's definitions the operations and the sample with its layout, nothing else; settings, errors and fates are the first
--- chip's ledger's. Quotations are of document 01 where nothing else is named; "DECISIONS" is docs/DECISIONS.md, "The MultiKron II" and "Hand-over and giving
--- back".
-use Rattle.std.specs.Prelude.{ℕ, ◌+◌, ◌-◌, ◌*◌, ◌/◌, ◌%◌, ◌^◌, ◌<◌, min, ◌≡◌, Bool, true, false, cond, ◌||◌, List, [], ◌∷◌, ◌++◌, map, eqb, leb, ltb, drop, get_or, length, replicate, set}
+-- chip's ledger's. Quotations are of document 01 where nothing else is named; "DECISIONS" is docs/DECISIONS.md, "The MultiKron II".
+use Rattle.std.specs.Prelude.{ℕ, ◌+◌, ◌-◌, ◌*◌, ◌/◌, ◌%◌, ◌^◌, min, Bool, true, false, cond, ◌||◌, List, [], ◌∷◌, ◌++◌, eqb, leb, ltb, get_or, replicate, set}
 use Rattle.samples.specs.declared.edition.Edition.TheVariants.{Second}
 use Rattle.samples.specs.declared.sample.Sample.{Sample}
-use Rattle.chip2.specs.Operation.{Operation, op_reset, op_write, op_read, op_ticks, op_nodes, op_events, op_send, op_fill, op_hand, op_back}
+use Rattle.chip2.specs.Operation.{Operation, op_reset, op_write, op_read, op_ticks, op_nodes, op_events, op_send, op_fill}
 use Rattle.history.specs.Ledger.{Errors, Fate, Settings, configured, each_from, fate_number, filtering, gap, is_set, line_in, lost_cleared, lost_one, turned, unmarked, waited_one, waits_cleared, was_filtered, was_lost, was_off, was_taken, was_told}
 use Rattle.history.specs.Stream.{any_held, held_of, is_blocked, is_full, total_of, words_of_all}
-use Rattle.history2.specs.Counts2.{Control2, Count, all_hold, cleared, counted, disabled, due_external, due_software, due_ticks, enabling, flat, moding, no_control, no_count, node_ticks, number_in, packed, paired, pairs, put_where, restarts, saved_control, saved_count, selecting, stamp_ticks}
+use Rattle.history2.specs.Counts2.{Control2, Count, counted, due_external, due_software, due_ticks, enabling, flat, moding, no_control, no_count, node_ticks, packed, paired, pairs, put_where, restarts, selecting, stamp_ticks}
 
 -- ---- what is kept
 
@@ -248,38 +247,6 @@ left l = total_of Second l.taken - l.sent
 abbrev pub sent_more : ℕ → Ledger → Ledger
 sent_more room l = with_stream l.taken (l.sent + min room (left l)) l
 
--- Wish 10: "then zero counters, shadows and the High Order register, and disable all counters"
-abbrev pub handed_in : Ledger → Ledger
-handed_in l = with_high 0 (with_shadows (replicate 16 0) (with_counters (map disabled l.controls) (map cleared l.counts) l))
-
--- "12 shadows busy (hand-over only), 13 buffer shorter than the set (both), 14 ..; tried .. in that order, with record .. unchanged"
-abbrev pub hand_over : ℕ → Ledger → Entry
-hand_over room l = cond (any_held (held l)) (tells 12 0 l) (cond (leb 88 room) (tells 0 0 (handed_in l)) (tells 13 0 l))
-
--- "save the counters and their three control registers into a lent buffer (88 bytes: counters 0 to 15, Enable, Mode, Clock Select as held, low byte first; the
--- rest untouched)": what the buffer then has of a ledger, where it was `out` before
-pub record SavedIn (l : Ledger) (out now : List ℕ) : Type 0 where
-  pub counters : (i : ℕ) → i < 16 → number_in 4 (4 * i) now ≡ get_or (flat l.counts) i 0
-  pub enable : number_in 8 64 now ≡ packed (λ k. k.enable) l.controls
-  pub mode : number_in 8 72 now ≡ packed (λ k. k.mode) l.controls
-  pub select : number_in 8 80 now ≡ packed (λ k. k.select) l.controls
-  pub long : length now ≡ length out
-  pub rest : drop 88 now ≡ drop 88 out
-
--- "a giving-back is a write of them": of the numbers saved, and where its Mode pairs them "of what both halves then hold"; "shadows and the High Order register
--- stay as they are"
-abbrev pub saved_controls : List ℕ → Ledger → List Control2
-saved_controls saved l = each_from 0 (λ i k. saved_control saved i) l.controls
-
-abbrev pub restored_in : List ℕ → Ledger → Ledger
-restored_in saved l =
-    let ks = saved_controls saved l in
-    with_counters ks (each_from 0 (λ j c. paired (pairs ks j) (saved_count saved j)) l.counts) l
-
-abbrev pub give_back : List ℕ → Ledger → Entry
-give_back saved l =
-    cond (leb 88 (length saved)) (cond (all_hold (saved_controls saved l)) (tells 0 0 (restored_in saved l)) (tells 14 0 l)) (tells 13 0 l)
-
 -- one operation; DECISIONS: ticks have "the external lines that are high during all of these ticks"
 unfoldable pub entry_of : Operation → Ledger → Entry
 entry_of op_reset l = tells 0 0 (reset_at 0)
@@ -290,8 +257,6 @@ entry_of (op_nodes k levels) l = tells 0 0 (with_clocks l.clock (l.nodes + k) (h
 entry_of (op_events mask) l = tells 0 0 (happened (due_external mask) l)
 entry_of op_send l = cond (eqb (left l) 0) (tells 5 0 l) (tells 0 (get_or (words_of_all Second l.taken) l.sent 0) (sent_more 1 l))
 entry_of (op_fill room) l = tells 0 (min room (left l)) (sent_more room l)
-entry_of (op_hand room) l = hand_over room l
-entry_of (op_back saved) l = give_back saved l
 
 -- ---- the fold
 

@@ -2,7 +2,7 @@
 -- the last reset, and those still to come.
 use Rattle.std.specs.Prelude.{ℕ, zero, suc, cond, List, [], ◌∷◌, ◌++◌, eqb, replicate, take}
 use Rattle.chip2.specs.Chip2.{fresh, sent_buffer}
-use Rattle.chip2.specs.Operation.{Operation, op_reset, op_write, op_read, op_ticks, op_nodes, op_events, op_send, op_fill, op_hand, op_back, step}
+use Rattle.chip2.specs.Operation.{Operation, op_reset, op_write, op_read, op_ticks, op_nodes, op_events, op_send, op_fill, step}
 use Rattle.chip2.specs.declared.chip2.Chip2.{Chip2}
 
 -- the chip after a list of operations, the oldest first
@@ -24,8 +24,6 @@ stream_after (op_nodes k levels) c ws = ws
 stream_after (op_events mask) c ws = ws
 stream_after op_send c ws = ws ++ cond (eqb (step op_send c).number 0) ((step op_send c).value ∷ []) []
 stream_after (op_fill room) c ws = ws ++ take (step (op_fill room) c).value (sent_buffer c (replicate room 0))
-stream_after (op_hand room) c ws = ws
-stream_after (op_back saved) c ws = ws
 
 -- after all of them
 unfoldable pub sent_from : Chip2 → List ℕ → List Operation → List ℕ

@@ -1,7 +1,7 @@
 -- Document 02, Wish 8, "A waiting task gets in", with Wish 9's numbers: "for this edition .. Wish 8's numbers are 84 and 224". What may come in between, the words
 -- sent in it, and how single sends end the wait, on the MultiKron II; the law and its numbers are the first chip's definitions, over the edition.
 use Rattle.std.specs.Prelude.{ℕ, ◌+◌, ◌%◌, ◌^◌, ◌<◌, ◌≡◌, Bool, true, false, cond, not, ◌||◌, List, [], ◌∷◌, ◌++◌, eqb, replicate}
-use Rattle.chip2.specs.Operation.{Operation, op_reset, op_write, op_read, op_ticks, op_nodes, op_events, op_send, op_fill, op_hand, op_back, step}
+use Rattle.chip2.specs.Operation.{Operation, op_reset, op_write, op_read, op_ticks, op_nodes, op_events, op_send, op_fill, step}
 use Rattle.chip2.specs.Place.{place_of}
 use Rattle.chip2.specs.declared.chip2.Chip2.{Chip2}
 use Rattle.chip2.specs.declared.place.Place.{Place}
@@ -14,9 +14,8 @@ use Rattle.history2.specs.Walk2.{after_one}
 abbrev pub enough : Bool → ℕ
 enough resource = cond resource 224 84
 
--- "Let there be no other trigger, reset, CSR or Filter write, but any reads, ticks, events and other writes", and on this chip hand-overs and givings-back: whether
--- an operation may come while the trigger at an address waits; a write at that address is the trigger "asked again". The addresses of such writes are the first
--- chip's
+-- "Let there be no other trigger, reset, CSR or Filter write, but any reads, ticks, events and other writes": whether an operation may come while the trigger at an
+-- address waits; a write at that address is the trigger "asked again". The addresses of such writes are the first chip's
 abbrev pub may_come : ℕ → Operation → Bool
 may_come address op = after_one false (λ a bits b. eqb a address || not (barred a)) op true
 
@@ -48,8 +47,6 @@ leaves_alone address (op_nodes k levels) = true
 leaves_alone address (op_events mask) = true
 leaves_alone address op_send = true
 leaves_alone address (op_fill room) = true
-leaves_alone address (op_hand room) = true
-leaves_alone address (op_back saved) = true
 
 -- what came in between, from the chip that the first asking left: such operations alone, and wherever the trigger was asked again, it was not taken
 pub record Between (address : ℕ) (c : Chip2) (ops : List Operation) : Type 0 where
@@ -66,8 +63,6 @@ sent_by (op_nodes k levels) c = 0
 sent_by (op_events mask) c = 0
 sent_by op_send c = cond (eqb (step op_send c).number 0) 1 0
 sent_by (op_fill room) c = (step (op_fill room) c).value
-sent_by (op_hand room) c = 0
-sent_by (op_back saved) c = 0
 
 -- and a list
 unfoldable pub words_in : Chip2 → List Operation → ℕ

@@ -1,7 +1,7 @@
 -- The settings of the MultiKron II a second time, by a walk over the list that knows resets and writes alone. Of a write's data the low 16 bits decide, in 32-bit
 -- mode and in 64-bit mode.
 use Rattle.std.specs.Prelude.{ℕ, suc, Bool, true, false, cond, ◌||◌, List, [], ◌∷◌, eqb}
-use Rattle.chip2.specs.Operation.{Operation, op_reset, op_write, op_read, op_ticks, op_nodes, op_events, op_send, op_fill, op_hand, op_back}
+use Rattle.chip2.specs.Operation.{Operation, op_reset, op_write, op_read, op_ticks, op_nodes, op_events, op_send, op_fill}
 use Rattle.history.specs.Ledger.{is_set}
 
 -- a yes or no after an operation: what a hardware reset leaves, what a write makes by its address and data; every other operation leaves it
@@ -14,8 +14,6 @@ after_one reset write (op_nodes k levels) b = b
 after_one reset write (op_events mask) b = b
 after_one reset write op_send b = b
 after_one reset write (op_fill room) b = b
-after_one reset write (op_hand room) b = b
-after_one reset write (op_back saved) b = b
 
 -- and after all of them
 unfoldable pub after_all : (Operation → Bool → Bool) → Bool → List Operation → Bool

@@ -1,6 +1,6 @@
--- Laws of a record's buffer: it asks for no more places than there are, no more words are sent than places, and they don't depend on what stood in
--- the buffer. Assumes nothing.
-use Prim.Native.Nat.{ℕ, ◌≤◌, ◌<◌}
+-- Laws of a buffer send: a record asks for at most a thousand places, no more words are sent than there are places, and they don't depend on
+-- what stood in the buffer. Assumes nothing.
+use Prim.Native.Nat.{ℕ, ◌≤◌}
 use native.Mathlib.Omega.{arith}
 use mathlib.Core.Path.{◌≡◌, refl, sym, ap, ◌∙◌, subst}
 use mathlib.Core.Bool.{Bool, true, false, cond}
@@ -16,57 +16,47 @@ use Rattle.queue.proofs.CountLaws.{words_most}
 use Rattle.control.specs.declared.reply.Reply.TheVariants.{Outside}
 use Rattle.chip2.specs.Chip2.{done, inside, replied, send_into, sent_buffer, with_queue}
 use Rattle.chip2.specs.declared.chip2.Chip2.{Chip2}
-use Rattle.script2.specs.Record.{by_kind, operation_of, up_to, zeroed}
+use Rattle.script2.specs.Record.{by_kind, operation_of, zeroed}
 use Rattle.script2.specs.declared.operation.Operation.{Operation}
-use Rattle.script2.specs.declared.operation.Operation.TheVariants.{Bad, Reset, Write, Read, Ticks, Nodes, Events, Send, Fill, Hand, Back, Poke}
+use Rattle.script2.specs.declared.operation.Operation.TheVariants.{Bad, Reset, Write, Read, Ticks, Nodes, Events, Send, Fill}
 
--- a record's places are within their buffer: a thousand words, and a hundred bytes
-abbrev pub Within : Operation → Type 0
-Within Bad = Unit
-Within Reset = Unit
-Within (Write address bits lines) = Unit
-Within (Read address) = Unit
-Within (Ticks k levels) = Unit
-Within (Nodes k levels) = Unit
-Within (Events mask) = Unit
-Within Send = Unit
-Within (Fill places) = places ≤ 1000
-Within (Hand places) = places ≤ 100
-Within (Back places) = places ≤ 100
-Within (Poke place byte) = place < 100
+-- how many places an operation asks for
+abbrev places : Operation → ℕ
+places Bad = 0
+places Reset = 0
+places (Write address bits lines) = 0
+places (Read address) = 0
+places (Ticks k levels) = 0
+places (Nodes k levels) = 0
+places (Events mask) = 0
+places Send = 0
+places (Fill n) = n
 
-either : (b : Bool) (o p : Operation) → Within o → Within p → Within (cond b o p)
+either : (b : Bool) (o p : Operation) → places o ≤ 1000 → places p ≤ 1000 → places (cond b o p) ≤ 1000
 either true o p h k = h
 either false o p h k = k
 
--- an operation with a number up to a last one
-limited : (last n : ℕ) (o : Operation) → (n ≤ last → Within o) → Within (up_to last n o)
-limited last n o h = go (leb n last) refl
-  where
-    go : (b : Bool) → leb n last ≡ b → Within (cond b o Bad)
-    go true e = h (leb-true n last e)
-    go false e = tt
-
-kind_within : (kind address lines levels bits : ℕ) → Within (by_kind kind address lines levels bits)
+kind_places : (kind address lines levels bits : ℕ) → places (by_kind kind address lines levels bits) ≤ 1000
 unfolding by_kind
-kind_within kind address lines levels bits =
-    either (eqb kind 0) _ _ tt
-    (either (eqb kind 1) _ _ tt
-    (either (eqb kind 2) _ _ tt
-    (either (eqb kind 3) _ _ (limited 4294967295 bits (Ticks bits levels) (λ h. tt))
-    (either (eqb kind 4) _ _ (limited 4294967295 bits (Nodes bits levels) (λ h. tt))
-    (either (eqb kind 5) _ _ (limited 65535 bits (Events bits) (λ h. tt))
-    (either (eqb kind 6) _ _ tt
-    (either (eqb kind 7) _ _ (limited 1000 bits (Fill bits) (λ h. h))
-    (either (eqb kind 8) _ _ (limited 100 bits (Hand bits) (λ h. h))
-    (either (eqb kind 9) _ _ (limited 100 bits (Back bits) (λ h. h))
-    (either (eqb kind 10) _ _ (limited 99 address (Poke address lines) (λ h. omega arith)) tt))))))))))
+kind_places kind address lines levels bits =
+    either (eqb kind 0) _ _ (omega arith)
+    (either (eqb kind 1) _ _ (omega arith)
+    (either (eqb kind 2) _ _ (omega arith)
+    (either (eqb kind 3) _ _ (either (leb bits 4294967295) _ _ (omega arith) (omega arith))
+    (either (eqb kind 4) _ _ (either (leb bits 4294967295) _ _ (omega arith) (omega arith))
+    (either (eqb kind 5) _ _ (either (leb bits 65535) _ _ (omega arith) (omega arith))
+    (either (eqb kind 6) _ _ (omega arith)
+    (either (eqb kind 7) _ _ (fits (leb bits 1000) refl) (omega arith))))))))
+  where
+    fits : (b : Bool) → leb bits 1000 ≡ b → places (cond b (Fill bits) Bad) ≤ 1000
+    fits true e = leb-true bits 1000 e
+    fits false e = omega arith
 
-pub all_within : (bytes : List ℕ) {o : Operation} → operation_of bytes ≡ o → Within o
+pub few_places : (bytes : List ℕ) {n : ℕ} → operation_of bytes ≡ Fill n → n ≤ 1000
 unfolding operation_of
-all_within bytes e =
-    subst Within e
-    (either (eqb (length bytes) 16) _ _ (either (zeroed bytes) _ _ (kind_within (get_or bytes 0 0) (get_or bytes 1 0) (get_or bytes 2 0) _ _) tt) tt)
+few_places bytes e =
+    subst (λ (o : Operation). places o ≤ 1000) e
+    (either (eqb (length bytes) 16) _ _ (either (zeroed bytes) _ _ (kind_places (get_or bytes 0 0) (get_or bytes 1 0) (get_or bytes 2 0) _ _) (omega arith)) (omega arith))
 
 module _ (c : Chip2) where
   -- inside the bounds or not

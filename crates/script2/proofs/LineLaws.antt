@@ -1,20 +1,20 @@
--- Laws of words in decimal, of a list put number by number, and of a line with something behind its value. Assumes nothing.
-use Prim.Native.Nat.{ℕ, zero, suc, ◌+◌, ◌-◌, ◌*◌, ◌/◌, ◌%◌, ◌^◌, ◌≤◌, ◌<◌}
+-- Laws of words in decimal and of a line with words. Assumes nothing.
+use Prim.Native.Nat.{ℕ, zero, suc, ◌+◌, ◌-◌, ◌/◌, ◌%◌, ◌^◌, ◌≤◌, ◌<◌}
 use native.Mathlib.Nat.{pow-suc, add_comm, zero-lt-suc, mod-lt}
 use native.Mathlib.Numerals.{add-one}
 use native.Mathlib.Omega.{arith}
 use mathlib.Core.Path.{◌≡◌, refl, sym, ap, ap₂, ◌∙◌}
 use mathlib.Core.Bool.{Bool, true, false, cond}
-use mathlib.Core.List.{List, [], ◌∷◌, ◌++◌, flat_map, append_assoc, append-nil}
+use mathlib.Core.List.{List, [], ◌∷◌, ◌++◌, append_assoc, append-nil}
 use lib.Dec.{ltb}
 use lib.ListN.{get_or, length, set, take, length-append}
-use lib.Seq.{sets, length-take-le, set-set, take-suc}
+use lib.Seq.{sets, set-set, take-suc}
 use borrow.Author.Tests.{lt-ltb, ltb-false, ltb-true}
 use Rattle.words.proofs.PutLaws.{sets_append}
 use Rattle.io.specs.Digits.{last_digits}
 use Rattle.script.specs.Line.{answer_line, decimal, width_of}
 use Rattle.script.proofs.LineLaws.{decimal_bound, width_more, width_one}
-use Rattle.script2.specs.Line.{hex_byte, line_with}
+use Rattle.script2.specs.Line.{spaced, words_line}
 
 -- a search that is long enough finds the same width when it is longer
 width_enough : (f x : ℕ) → x < 10 ^ suc f → width_of (suc f) x ≡ width_of f x
@@ -59,38 +59,32 @@ module _ (n : ℕ) (l : List ℕ) (at : ℕ) (large : 1000 ≤ n) (small : n < 2
       ∙ sym (sets_append l (decimal (n / 100)) two at)
       ∙ ap (sets l at) (sym split)
 
--- what each number of a list gives, one after the other: one number more
-module _ (f : ℕ → List ℕ) where
-  each_more : (xs : List ℕ) (x : ℕ) → flat_map f (xs ++ (x ∷ [])) ≡ flat_map f xs ++ f x
-  unfolding flat_map
-  each_more [] x = append-nil (f x)
-  each_more (y ∷ xs) x = ap (λ (t : List ℕ). f y ++ t) (each_more xs x) ∙ sym (append_assoc (f y) (flat_map f xs) (f x))
+-- one word more
+spaced_more : (ws : List ℕ) (w : ℕ) → spaced (ws ++ (w ∷ [])) ≡ spaced ws ++ (32 ∷ decimal w)
+unfolding spaced
+spaced_more [] w = ap (λ (t : List ℕ). 32 ∷ t) (append-nil (decimal w))
+spaced_more (x ∷ ws) w = ap (λ (t : List ℕ). 32 ∷ decimal x ++ t) (spaced_more ws w) ∙ sym (append_assoc (32 ∷ decimal x) (spaced ws) (32 ∷ decimal w))
 
-  module _ (xs out₀ : List ℕ) (at i : ℕ) (here : i < length xs) {end : ℕ} {out : List ℕ} (e : end ≡ at + length (flat_map f (take i xs))) (o : out ≡ sets out₀ at (flat_map f (take i xs))) where
-    each_next : flat_map f (take (i + 1) xs) ≡ flat_map f (take i xs) ++ f (get_or xs i 0)
-    each_next = rw add-one (ap (flat_map f) (take-suc xs i 0 here) ∙ each_more (take i xs) (get_or xs i 0))
+module _ (words out₀ : List ℕ) (at i : ℕ) (here : i < length words) {end : ℕ} {out : List ℕ} (e : end ≡ at + length (spaced (take i words))) (o : out ≡ sets out₀ at (spaced (take i words))) where
+  abbrev word : List ℕ
+  word = 32 ∷ decimal (get_or words i 0)
 
-    pub each_end : end + length (f (get_or xs i 0)) ≡ at + length (flat_map f (take (i + 1) xs))
-    each_end = omega (arith, ap length each_next, length-append (flat_map f (take i xs)) (f (get_or xs i 0)))
+  spaced_next : spaced (take (i + 1) words) ≡ spaced (take i words) ++ word
+  spaced_next = rw add-one (ap spaced (take-suc words i 0 here) ∙ spaced_more (take i words) (get_or words i 0))
 
-    pub each_text : sets out end (f (get_or xs i 0)) ≡ sets out₀ at (flat_map f (take (i + 1) xs))
-    each_text =
-        ap₂ (λ (m : List ℕ) (k : ℕ). sets m k (f (get_or xs i 0))) o e
-        ∙ sym (sets_append out₀ (flat_map f (take i xs)) (f (get_or xs i 0)) at)
-        ∙ ap (sets out₀ at) (sym each_next)
+  pub words_end : {next : ℕ} → next ≡ end + 1 + length (decimal (get_or words i 0)) → next ≡ at + length (spaced (take (i + 1) words))
+  words_end n = omega (arith, ap length spaced_next, length-append (spaced (take i words)) word)
 
--- two digits for each byte
-pub hex_length : (bytes : List ℕ) → length (flat_map hex_byte bytes) ≡ 2 * length bytes
-unfolding flat_map
-hex_length [] = refl
-hex_length (b ∷ bytes) = omega (arith, hex_length bytes)
+  pub words_text : sets (set out end 32) (end + 1) (decimal (get_or words i 0)) ≡ sets out₀ at (spaced (take (i + 1) words))
+  words_text =
+      ap (λ (k : ℕ). sets (set out end 32) k (decimal (get_or words i 0))) (add-one end)
+      ∙ ap₂ (λ (m : List ℕ) (k : ℕ). sets m k word) o e
+      ∙ sym (sets_append out₀ (spaced (take i words)) word at)
+      ∙ ap (sets out₀ at) (sym spaced_next)
 
-pub hex_first : (bytes : List ℕ) (i : ℕ) → i ≤ length bytes → length (flat_map hex_byte (take i bytes)) ≡ 2 * i
-hex_first bytes i h = hex_length (take i bytes) ∙ ap (λ (n : ℕ). 2 * n) (length-take-le i bytes h)
-
--- with nothing behind the value it is document 01's line
-pub plain_line : (number value : ℕ) → answer_line number value ≡ line_with number value []
-unfolding answer_line line_with
+-- with no words it is document 01's line
+pub plain_line : (number value : ℕ) → answer_line number value ≡ words_line number value []
+unfolding answer_line spaced words_line
 plain_line number value = refl
 
 -- a run over the last place of the run before
@@ -103,32 +97,39 @@ over l first (y ∷ tail) x at h =
     ∙ ap (λ (o : List ℕ). sets o (suc k) tail) (set-set m k x y)
     ∙ sym (sets_append l first (y ∷ tail) at)
 
--- a line is its reply and value, and then what follows and the newline
+-- a line is its reply and value, and then its words and the newline
 module _ (number value : ℕ) where
   abbrev front : List ℕ
   front = decimal number ++ (32 ∷ decimal value)
 
-  fronted : (tail : List ℕ) → line_with number value tail ≡ front ++ (tail ++ (10 ∷ []))
-  unfolding line_with
-  fronted tail = sym (append_assoc (decimal number) (32 ∷ decimal value) (tail ++ (10 ∷ [])))
+  abbrev pub behind : List ℕ → List ℕ
+  behind words = spaced words ++ (10 ∷ [])
 
-  line_length : (tail : List ℕ) → length (line_with number value tail) ≡ length front + length (tail ++ (10 ∷ []))
-  line_length tail = ap length (fronted tail) ∙ length-append front (tail ++ (10 ∷ []))
+  fronted : (words : List ℕ) → words_line number value words ≡ front ++ behind words
+  unfolding words_line
+  fronted words = sym (append_assoc (decimal number) (32 ∷ decimal value) (behind words))
 
-  pub plain_some : 1 ≤ length (line_with number value [])
-  plain_some = omega (arith, line_length [])
+  line_length : (words : List ℕ) → length (words_line number value words) ≡ length front + length (behind words)
+  line_length words = ap length (fronted words) ∙ length-append front (behind words)
 
-  pub plain_bound : length (line_with number value []) ≤ 42
-  plain_bound = omega (arith, line_length [], length-append (decimal number) (32 ∷ decimal value), decimal_bound number, decimal_bound value)
+  none : length (behind []) ≡ 1
+  unfolding spaced
+  none = refl
 
-  -- put over the newline
-  module _ (tail l : List ℕ) (at : ℕ) {end : ℕ} (e : end ≡ at + length (line_with number value [])) where
-    pub tail_end : {next : ℕ} → next ≡ end - 1 + length (tail ++ (10 ∷ [])) → next ≡ at + length (line_with number value tail)
-    tail_end n = omega (arith, line_length [], line_length tail)
+  pub plain_some : 1 ≤ length (words_line number value [])
+  plain_some = omega (arith, line_length [], none)
 
-    pub tail_text : {out : List ℕ} → out ≡ sets l at (line_with number value []) → sets out (end - 1) (tail ++ (10 ∷ [])) ≡ sets l at (line_with number value tail)
-    tail_text o =
-        let place : end - 1 ≡ at + length front = omega (arith, line_length []) in
-        ap₂ (λ (m : List ℕ) (k : ℕ). sets m k (tail ++ (10 ∷ []))) (o ∙ ap (sets l at) (fronted [])) place
-        ∙ over l front (tail ++ (10 ∷ [])) 10 at (omega (arith, length-append tail (10 ∷ [])))
-        ∙ ap (sets l at) (sym (fronted tail))
+  pub plain_bound : length (words_line number value []) ≤ 42
+  plain_bound = omega (arith, line_length [], none, length-append (decimal number) (32 ∷ decimal value), decimal_bound number, decimal_bound value)
+
+  module _ (words l : List ℕ) (at : ℕ) {end : ℕ} (e : end ≡ at + length (words_line number value [])) where
+    pub sent_end : {next : ℕ} → next ≡ end - 1 + length (behind words) → next ≡ at + length (words_line number value words)
+    sent_end n = omega (arith, line_length [], none, line_length words)
+
+    pub sent_text : {out : List ℕ} → out ≡ sets l at (words_line number value []) → sets out (end - 1) (behind words) ≡ sets l at (words_line number value words)
+    unfolding spaced
+    sent_text o =
+        let place : end - 1 ≡ at + length front = omega (arith, line_length [], none) in
+        ap₂ (λ (m : List ℕ) (k : ℕ). sets m k (behind words)) (o ∙ ap (sets l at) (fronted [])) place
+        ∙ over l front (behind words) 10 at (omega (arith, length-append (spaced words) (10 ∷ [])))
+        ∙ ap (sets l at) (sym (fronted words))

@@ -1,42 +1,33 @@
-// A block of records: each one's step on the chip and the kept buffer, and its line.
+// A block of records: each one's step on the chip, and its line.
 ghost use Rattle.std.specs.Prelude.{◌≡◌, length};
 ghost use Rattle.script2.specs.Run.{block_buffer, block_of, record_count};
 
-use super::line::{put_hex, put_plain, put_sent};
+use super::line::{put_plain, put_sent};
 use super::operation::{Operation, decode};
 use chip2::chip2::Chip2;
 use control::reply::number_of;
 use words::parity::parities;
 use words::size::least;
 
-// The chip, and the buffer that the program keeps.
-#[derive(Drop)]
-pub struct Desk {
-    pub chip: Chip2,
-    pub kept: [u8; 100],
-}
-
-// The desk after a block, how many records it took, and how many bytes of text it wrote.
+// The chip after a block, how many records it took, and how many bytes of text it wrote.
 #[derive(Drop)]
 pub struct Block {
-    pub desk: Desk,
+    pub chip: Chip2,
     pub records: usize,
     pub written: usize,
 }
 
 // Runs the records of an input, a last part of one too, as many as the buffer has room for at 6,042 bytes a line. Each kind stores the next
 // chip by itself, so that the compiler changes it in place.
-pub fn run_block(desk: Desk, input: &[u8], out: &mut [u8]) -> Block
-    ensures value { result ≡ block_of input.now (length out.old) desk }
-    ensures out_after { out.new ≡ block_buffer input.now out.old desk }
+pub fn run_block(chip: Chip2, input: &[u8], out: &mut [u8]) -> Block
+    ensures value { result ≡ block_of input.now (length out.old) chip }
+    ensures out_after { out.new ≡ block_buffer input.now out.old chip }
 {
     let count = least(record_count(input.len()), out.len() / 6042);
     let table = parities();
     let mut space = [0u16; 1000];
     let words: &mut [u16] = &mut space;
-    let mut state = desk.chip;
-    let mut kept = desk.kept;
-    let saved: &mut [u8] = &mut kept;
+    let mut state = chip;
     let mut at = 0;
     let mut i = 0;
     while i < count {
@@ -104,34 +95,10 @@ pub fn run_block(desk: Desk, input: &[u8], out: &mut [u8]) -> Block
                 let sent = answer.value as usize;
                 at = put_sent(number_of(reply), answer.value, &words[..sent], out, at);
             }
-            Operation::Hand(places) => {
-                let answer = state.hand_over(&mut saved[..places]);
-                let next = answer.chip;
-                state = next;
-                let reply = answer.reply;
-                let number = number_of(reply);
-                if number == 0 {
-                    at = put_hex(number, answer.value, &saved[..88], out, at);
-                } else {
-                    at = put_plain(number, answer.value, out, at);
-                }
-            }
-            Operation::Back(places) => {
-                let answer = state.give_back(&saved[..places]);
-                let next = answer.chip;
-                state = next;
-                let reply = answer.reply;
-                at = put_plain(number_of(reply), answer.value, out, at);
-            }
-            Operation::Poke(place, byte) => {
-                saved[place] = byte;
-                at = put_plain(0, 0, out, at);
-            }
         }
     }
-    let desk = Desk { chip: state, kept };
     Block {
-        desk,
+        chip: state,
         records: count,
         written: at,
     }

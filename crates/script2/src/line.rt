@@ -1,18 +1,17 @@
-// An answer as a line of text in a lent buffer, with the words of a buffer send or the bytes of a hand-over.
+// An answer as a line of text in a lent buffer, with the words of a buffer send.
 ghost use Rattle.std.specs.Prelude.{◌≡◌, [], ◌∷◌, ◌++◌, ◌+◌, ◌*◌, ◌≤◌, ◌<◌, length};
 ghost use Rattle.std.proofs.lemmas.List.Edits.{sets};
 ghost use Rattle.script.specs.Line.{decimal};
-ghost use Rattle.io.specs.Digits.{hex_digit_ascii};
-ghost use Rattle.script2.specs.Line.{line_with, spaced, spaced_hex};
+ghost use Rattle.script2.specs.Line.{spaced, words_line};
 
 use script::line::put_line;
 
 // Puts a line, a reply's number and a value, at a place of the buffer and gives the place behind it.
 pub(crate) fn put_plain(number: u64, value: u64, out: &mut [u8], at: usize) -> usize
     requires { at + 42 ≤ length out.old }
-    ensures value { result ≡ at + length (line_with number value []) }
+    ensures value { result ≡ at + length (words_line number value []) }
     ensures upper_bound { result ≤ at + 42 }
-    ensures out_after { out.new ≡ sets out.old at (line_with number value []) }
+    ensures out_after { out.new ≡ sets out.old at (words_line number value []) }
 {
     put_line(number, value, out, at)
 }
@@ -20,9 +19,9 @@ pub(crate) fn put_plain(number: u64, value: u64, out: &mut [u8], at: usize) -> u
 // The same with words behind the value, where the newline stood first.
 pub(crate) fn put_sent(number: u64, value: u64, words: &[u16], out: &mut [u8], at: usize) -> usize
     requires { at + 42 + 6 * length words.now ≤ length out.old }
-    ensures value { result ≡ at + length (line_with number value (spaced words.now)) }
+    ensures value { result ≡ at + length (words_line number value words.now) }
     ensures upper_bound { result ≤ at + 42 + 6 * length words.now }
-    ensures out_after { out.new ≡ sets out.old at (line_with number value (spaced words.now)) }
+    ensures out_after { out.new ≡ sets out.old at (words_line number value words.now) }
 {
     let end = put_plain(number, value, out, at);
     put_words(words, out, end - 1)
@@ -83,47 +82,4 @@ fn put_small(n: u16, out: &mut [u8], at: usize) -> usize
     out[at + 1] = (n / 10 % 10) as u8 + 48;
     out[at + 2] = (n % 10) as u8 + 48;
     at + 3
-}
-
-// A line with bytes in hexadecimal behind the value, where the newline stood first.
-pub(crate) fn put_hex(number: u64, value: u64, bytes: &[u8], out: &mut [u8], at: usize) -> usize
-    requires { at + 43 + 2 * length bytes.now ≤ length out.old }
-    ensures value { result ≡ at + length (line_with number value (spaced_hex bytes.now)) }
-    ensures upper_bound { result ≤ at + 43 + 2 * length bytes.now }
-    ensures out_after { out.new ≡ sets out.old at (line_with number value (spaced_hex bytes.now)) }
-{
-    let end = put_plain(number, value, out, at);
-    put_bytes(bytes, out, end - 1)
-}
-
-// Puts a space, two digits for each byte, then a newline.
-fn put_bytes(bytes: &[u8], out: &mut [u8], at: usize) -> usize
-    requires { at + 2 + 2 * length bytes.now ≤ length out.old }
-    ensures value { result ≡ at + length (spaced_hex bytes.now ++ (10 ∷ [])) }
-    ensures value_2 { result ≡ at + 2 + 2 * length bytes.now }
-    ensures out_after { out.new ≡ sets out.old at (spaced_hex bytes.now ++ (10 ∷ [])) }
-{
-    out[at] = 32;
-    let mut end = at + 1;
-    let mut i = 0;
-    while i < bytes.len() {
-        let byte = bytes[i];
-        out[end] = digit(byte / 16);
-        out[end + 1] = digit(byte % 16);
-        end += 2;
-        i += 1;
-    }
-    out[end] = 10;
-    end + 1
-}
-
-// A digit below 16 as text.
-fn digit(d: u8) -> u8
-    requires { d < 16 }
-    ensures { result ≡ hex_digit_ascii d }
-{
-    if d < 10 {
-        return 48 + d;
-    }
-    87 + d
 }

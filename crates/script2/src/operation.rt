@@ -24,11 +24,6 @@ pub enum Operation {
     Send,
     // How many places the buffer has.
     Fill(usize),
-    // Hand-over into the first places of the kept buffer, and giving back its first bytes: how many.
-    Hand(usize),
-    Back(usize),
-    // A place of the kept buffer, and the byte that it becomes.
-    Poke(usize, u8),
 }
 
 // The operation of a record: kind, address, lines, a zero byte, the lines that are high, two zero bytes, data.
@@ -74,24 +69,6 @@ fn by_kind(kind: u8, address: u8, lines: u8, levels: u16, bits: u64) -> Operatio
         7 => {
             if bits <= 1000 {
                 return Operation::Fill(bits as usize);
-            }
-            Operation::Bad
-        }
-        8 => {
-            if bits <= 100 {
-                return Operation::Hand(bits as usize);
-            }
-            Operation::Bad
-        }
-        9 => {
-            if bits <= 100 {
-                return Operation::Back(bits as usize);
-            }
-            Operation::Bad
-        }
-        10 => {
-            if address < 100 {
-                return Operation::Poke(address as usize, lines);
             }
             Operation::Bad
         }

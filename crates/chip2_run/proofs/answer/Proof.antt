@@ -6,7 +6,7 @@ use mathlib.Core.Path.{◌≡◌, sym, ap, ◌∙◌}
 use mathlib.Core.List.{List}
 use lib.ListN.{length, take}
 use lib.Seq.{length-take-le}
-use Rattle.script2.specs.Run.{input_desk, input_text}
+use Rattle.script2.specs.Run.{input_chip, input_text}
 use Rattle.chip2_run.specs.Turn.{due}
 use Rattle.chip2_run.proofs.TurnLaws.{due_take}
 use Rattle.chip2_run.proofs.answer.Statement.{statement}
@@ -38,8 +38,8 @@ returns c =
     let size : a.size ≤ length input = search rules in
     let same : take c.before.before.before.before.before.due-size.result input ≡ due a.ended (take a.size input) = ap (λ (n : ℕ). take n input) c.before.before.before.before.before.due-size.ensures.0 ∙ due_take a.size input size a.ended in
     let done = c.before.before.run-all.ensures in (
-      done.0 ∙ ap (λ (l : List ℕ). input_desk l a.desk) same,
-      (done.1.0 ∙ ap (λ (l : List ℕ). input_text l a.desk) same, done.1.1),
+      done.0 ∙ ap (λ (l : List ℕ). input_chip l a.chip) same,
+      (done.1.0 ∙ ap (λ (l : List ℕ). input_text l a.chip) same, done.1.1),
     )
 
 pub answer-spec : {M : Type 1} → statement M

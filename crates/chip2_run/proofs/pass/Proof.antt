@@ -38,7 +38,7 @@ returns c =
       fits = read.ensures.1.0;
       bytes = bytes_turn a.turn.size before c.before.before.before.before.before.before.before.before.before.before.before.before.before.before.before.before.before.before.before.before.requires.1.0 kept.result read.result.size kept.new.0 input kept.ensures.0 kept.ensures.1 read.ensures.0 read.ensures.1.1.0;
       last = λ e. nothing_came kept.result read.result.size input read.ensures.1.0 (read.ensures.1.1.1 e);
-      desk = done.0;
+      chip = done.0;
       answers = rw c.before.before.before.show.ensures done.1.0;
     }
 

@@ -23,10 +23,10 @@ returns c =
     let a = c.before.before.before.before.before.before.args in
     let input : List ℕ = a.input.now in
     let out : List ℕ = a.text.now in
-    let text : List ℕ = input_text input a.desk in
-    let block = c.before.before.run-block.ensures.0 ∙ block_whole input out a.desk c.before.before.before.before.before.before.requires in
-    let buffer = c.before.before.run-block.ensures.1 ∙ buffer_whole input out a.desk c.before.before.before.before.before.before.requires in (
-      ap (λ (b : Block). b.desk) block,
+    let text : List ℕ = input_text input a.chip in
+    let block = c.before.before.run-block.ensures.0 ∙ block_whole input out a.chip c.before.before.before.before.before.before.requires in
+    let buffer = c.before.before.run-block.ensures.1 ∙ buffer_whole input out a.chip c.before.before.before.before.before.before.requires in (
+      ap (λ (b : Block). b.chip) block,
       (
         ap₂ (λ (n : ℕ) (l : List ℕ). take n l) (ap (λ (b : Block). b.written) block) buffer ∙ take_at text (drop (length text) out) (length text) refl,
         rw (c.before.before.run-block.ensures.0, c.before.before.run-block.ensures.1) (block_shown _ _ _),

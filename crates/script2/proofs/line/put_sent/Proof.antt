@@ -2,8 +2,7 @@
 use borrow.Author.Rules.{rules}
 use native.Mathlib.Omega.{arith}
 use mathlib.Core.Path.{◌∙◌}
-use Rattle.script2.specs.Line.{spaced}
-use Rattle.script2.proofs.LineLaws.{plain_some, tail_end, tail_text}
+use Rattle.script2.proofs.LineLaws.{plain_some, sent_end, sent_text}
 use Rattle.script2.proofs.line.put_sent.Statement.{statement}
 use Rattle.script2.proofs.line.put_sent.Tie as tie
 
@@ -28,8 +27,8 @@ returns c =
     let a = c.before.before.before.before.before.before.before.before.before.before.args in
     let plain = c.before.before.before.before.before.before.put-plain.ensures in
     let words = c.before.before.put-words.ensures in (
-      tail_end a.number a.value (spaced a.words.now) a.out.now a.at plain.0 words.0,
-      (omega (arith, plain_some a.number a.value), words.1.1 ∙ tail_text a.number a.value (spaced a.words.now) a.out.now a.at plain.0 plain.1.1),
+      sent_end a.number a.value a.words.now a.out.now a.at plain.0 words.0,
+      (omega (arith, plain_some a.number a.value), words.1.1 ∙ sent_text a.number a.value a.words.now a.out.now a.at plain.0 plain.1.1),
     )
 
 pub put-sent-spec : {M : Type 1} → statement M

@@ -2,15 +2,14 @@
 use borrow.Author.Rules.{rules}
 use Prim.Native.Nat.{ℕ, ◌+◌, ◌*◌, ◌-◌, ◌≤◌}
 use native.Mathlib.Nat.{add-zero}
-use native.Mathlib.Numerals.{add-one}
 use native.Mathlib.Omega.{arith}
 use mathlib.Core.Path.{◌≡◌, refl, sym, ap, ap₂, ◌∙◌}
-use mathlib.Core.List.{List, [], ◌∷◌, flat_map}
+use mathlib.Core.List.{List, [], ◌∷◌}
 use lib.ListN.{length, set, take, length-append, length-set}
 use lib.Seq.{sets, length-sets, take_all}
 use Rattle.words.proofs.PutLaws.{sets_append}
-use Rattle.script2.specs.Line.{spaced, spaced_word}
-use Rattle.script2.proofs.LineLaws.{each_end, each_text}
+use Rattle.script2.specs.Line.{spaced}
+use Rattle.script2.proofs.LineLaws.{words_end, words_text}
 use Rattle.script2.proofs.line.put_words.Statement.{statement}
 use Rattle.script2.proofs.line.put_words.Tie as tie
 
@@ -22,7 +21,7 @@ abbrev decreases-loop : tie.decreases-loop
 decreases-loop words out₀ at end₀ i₀ out end i = length words - i
 
 loop-holds : tie.Need-loop-init invariant-loop decreases-loop
-unfolding flat_map
+unfolding spaced
 loop-holds c = (omega arith, omega arith, refl, sym (add-zero c.before.before.args.at), refl)
 
 slice-write-out : tie.Need-slice-write-out invariant-loop decreases-loop
@@ -56,8 +55,8 @@ loop-again c =
       omega arith,
       omega arith,
       ap length e.1.1 ∙ simp (length-sets, length-set) inv.2,
-      omega (arith, each_end spaced_word a.words.now a.out.now a.at v.i here inv.3 inv.4),
-      e.1.1 ∙ rw (add-one v.end) (each_text spaced_word a.words.now a.out.now a.at v.i here inv.3 inv.4),
+      words_end a.words.now a.out.now a.at v.i here inv.3 inv.4 e.0,
+      e.1.1 ∙ words_text a.words.now a.out.now a.at v.i here inv.3 inv.4,
     )
 
 slice-write-out-2 : tie.Need-slice-write-out-2 invariant-loop decreases-loop

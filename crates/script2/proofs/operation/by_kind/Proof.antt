@@ -4,7 +4,7 @@ use Prim.Native.Nat.{ℕ}
 use mathlib.Core.Path.{sym, ap, ◌∙◌}
 use borrow.Author.Tests.{ne_eqb}
 use Rattle.script2.specs.Record.{by_kind}
-use Rattle.script2.specs.declared.operation.Operation.TheVariants.{Ticks, Nodes, Events, Fill, Hand, Back, Poke}
+use Rattle.script2.specs.declared.operation.Operation.TheVariants.{Ticks, Nodes, Events, Fill}
 use Rattle.script2.proofs.RecordLaws.{beyond, up_to_lem}
 use Rattle.script2.proofs.operation.by_kind.Statement.{statement}
 use Rattle.script2.proofs.operation.by_kind.Tie as tie
@@ -45,92 +45,56 @@ returns-4 c =
 returns-5 : tie.Need-returns-5
 unfolding by_kind
 returns-5 c =
-    let a = c.before.before.args in
-    up_to_lem 100 a.bits (Hand a.bits) (search rules) ∙ ap (λ (k : ℕ). by_kind k a.address a.lines a.levels a.bits) (sym c.before.match.keys9)
+    let a = c.before.args in
+    ap (λ (k : ℕ). by_kind k a.address a.lines a.levels a.bits) (sym c.match.keys1)
 
 returns-6 : tie.Need-returns-6
 unfolding by_kind
 returns-6 c =
-    let a = c.before.before.args in
-    up_to_lem 100 a.bits (Back a.bits) (search rules) ∙ ap (λ (k : ℕ). by_kind k a.address a.lines a.levels a.bits) (sym c.before.match.keys10)
+    let a = c.before.args in
+    ap (λ (k : ℕ). by_kind k a.address a.lines a.levels a.bits) (sym c.match.keys2)
 
 returns-7 : tie.Need-returns-7
 unfolding by_kind
 returns-7 c =
-    let a = c.before.before.args in
-    up_to_lem 99 a.address (Poke a.address a.lines) (search rules) ∙ ap (λ (k : ℕ). by_kind k a.address a.lines a.levels a.bits) (sym c.before.match.keys11)
+    let a = c.before.args in
+    ap (λ (k : ℕ). by_kind k a.address a.lines a.levels a.bits) (sym c.match.keys3)
 
 returns-8 : tie.Need-returns-8
 unfolding by_kind
 returns-8 c =
-    let a = c.before.args in
-    ap (λ (k : ℕ). by_kind k a.address a.lines a.levels a.bits) (sym c.match.keys1)
+    let a = c.before.before.args in
+    beyond 4294967295 a.bits (Ticks a.bits a.levels) (search rules) ∙ ap (λ (k : ℕ). by_kind k a.address a.lines a.levels a.bits) (sym c.before.match.keys4)
 
 returns-9 : tie.Need-returns-9
 unfolding by_kind
 returns-9 c =
-    let a = c.before.args in
-    ap (λ (k : ℕ). by_kind k a.address a.lines a.levels a.bits) (sym c.match.keys2)
+    let a = c.before.before.args in
+    beyond 4294967295 a.bits (Nodes a.bits a.levels) (search rules) ∙ ap (λ (k : ℕ). by_kind k a.address a.lines a.levels a.bits) (sym c.before.match.keys5)
 
 returns-10 : tie.Need-returns-10
 unfolding by_kind
 returns-10 c =
-    let a = c.before.args in
-    ap (λ (k : ℕ). by_kind k a.address a.lines a.levels a.bits) (sym c.match.keys3)
+    let a = c.before.before.args in
+    beyond 65535 a.bits (Events a.bits) (search rules) ∙ ap (λ (k : ℕ). by_kind k a.address a.lines a.levels a.bits) (sym c.before.match.keys6)
 
 returns-11 : tie.Need-returns-11
 unfolding by_kind
 returns-11 c =
-    let a = c.before.before.args in
-    beyond 4294967295 a.bits (Ticks a.bits a.levels) (search rules) ∙ ap (λ (k : ℕ). by_kind k a.address a.lines a.levels a.bits) (sym c.before.match.keys4)
+    let a = c.before.args in
+    ap (λ (k : ℕ). by_kind k a.address a.lines a.levels a.bits) (sym c.match.keys7)
 
 returns-12 : tie.Need-returns-12
 unfolding by_kind
 returns-12 c =
     let a = c.before.before.args in
-    beyond 4294967295 a.bits (Nodes a.bits a.levels) (search rules) ∙ ap (λ (k : ℕ). by_kind k a.address a.lines a.levels a.bits) (sym c.before.match.keys5)
+    beyond 1000 a.bits (Fill a.bits) (search rules) ∙ ap (λ (k : ℕ). by_kind k a.address a.lines a.levels a.bits) (sym c.before.match.keys8)
 
 returns-13 : tie.Need-returns-13
 unfolding by_kind
 returns-13 c =
-    let a = c.before.before.args in
-    beyond 65535 a.bits (Events a.bits) (search rules) ∙ ap (λ (k : ℕ). by_kind k a.address a.lines a.levels a.bits) (sym c.before.match.keys6)
-
-returns-14 : tie.Need-returns-14
-unfolding by_kind
-returns-14 c =
-    let a = c.before.args in
-    ap (λ (k : ℕ). by_kind k a.address a.lines a.levels a.bits) (sym c.match.keys7)
-
-returns-15 : tie.Need-returns-15
-unfolding by_kind
-returns-15 c =
-    let a = c.before.before.args in
-    beyond 1000 a.bits (Fill a.bits) (search rules) ∙ ap (λ (k : ℕ). by_kind k a.address a.lines a.levels a.bits) (sym c.before.match.keys8)
-
-returns-16 : tie.Need-returns-16
-unfolding by_kind
-returns-16 c =
-    let a = c.before.before.args in
-    beyond 100 a.bits (Hand a.bits) (search rules) ∙ ap (λ (k : ℕ). by_kind k a.address a.lines a.levels a.bits) (sym c.before.match.keys9)
-
-returns-17 : tie.Need-returns-17
-unfolding by_kind
-returns-17 c =
-    let a = c.before.before.args in
-    beyond 100 a.bits (Back a.bits) (search rules) ∙ ap (λ (k : ℕ). by_kind k a.address a.lines a.levels a.bits) (sym c.before.match.keys10)
-
-returns-18 : tie.Need-returns-18
-unfolding by_kind
-returns-18 c =
-    let a = c.before.before.args in
-    beyond 99 a.address (Poke a.address a.lines) (search rules) ∙ ap (λ (k : ℕ). by_kind k a.address a.lines a.levels a.bits) (sym c.before.match.keys11)
-
-returns-19 : tie.Need-returns-19
-unfolding by_kind
-returns-19 c =
     let kind = c.before.args.kind in
-    simp (ne_eqb kind 0 (search rules), ne_eqb kind 1 (search rules), ne_eqb kind 2 (search rules), ne_eqb kind 3 (search rules), ne_eqb kind 4 (search rules), ne_eqb kind 5 (search rules), ne_eqb kind 6 (search rules), ne_eqb kind 7 (search rules), ne_eqb kind 8 (search rules), ne_eqb kind 9 (search rules), ne_eqb kind 10 (search rules))
+    simp (ne_eqb kind 0 (search rules), ne_eqb kind 1 (search rules), ne_eqb kind 2 (search rules), ne_eqb kind 3 (search rules), ne_eqb kind 4 (search rules), ne_eqb kind 5 (search rules), ne_eqb kind 6 (search rules), ne_eqb kind 7 (search rules))
 
 pub by-kind-spec : {M : Type 1} → statement M
 by-kind-spec =
@@ -151,10 +115,4 @@ by-kind-spec =
     returns-10
     returns-11
     returns-12
-    returns-13
-    returns-14
-    returns-15
-    returns-16
-    returns-17
-    returns-18
-    returns-19)
+    returns-13)

@@ -7,7 +7,7 @@ cleared-values-requires : tie.Need-cleared-values-requires
 cleared-values-requires c κs = search rules
 
 returns : tie.Need-returns
-returns c = λ i. record { values = c.cleared_values.ensures i; shadows = c.before.before.args.self.shadows }
+returns c = λ i. record { values = c.cleared-values.ensures i; shadows = c.before.before.args.self.shadows }
 
 pub cleared-spec : {M : Type 1} → statement M
 cleared-spec = tie.close (tie.spec cleared-values-requires returns)

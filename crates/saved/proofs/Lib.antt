@@ -1,2 +1,0 @@
-pub mod NibbleLaws
-pub mod SavedLaws

@@ -1,2 +1,0 @@
-pub mod Nibbles
-pub mod Saved

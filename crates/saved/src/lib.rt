@@ -1,2 +1,0 @@
-// The set that a hand-over of the MultiKron II saves: its bytes, and what is read back from them.
-pub mod saved;
