@@ -1,4 +1,6 @@
 // The bench program: records from standard input to a fresh chip, a line for each to standard output.
+#![tactic(auto)]
+
 ghost use Rattle.std.specs.Prelude.{◌+◌, ◌*◌, ◌-◌, ◌≤◌, ◌<◌, ◌≡◌, Bool, true, false, drop, length, take};
 ghost use Rattle.script.specs.Run.{due, due_size, input_chip, input_text, record_count, whole_size};
 ghost use Rattle.bench.specs.Turn.{Turned};
@@ -9,7 +11,7 @@ use script::block::{Block, run_block};
 
 // What stands between two reads: the chip; how many bytes of the input's buffer have come, and of the text's were handed to the write; whether
 // the input has ended; whether a call has failed.
-#[derive(Drop)]
+#[derive(Clone, Copy)]
 struct Turn {
     chip: Chip,
     size: usize,
@@ -19,7 +21,7 @@ struct Turn {
 }
 
 // How many bytes have come after a read, and whether the input has ended or the read has failed.
-#[derive(Drop)]
+#[derive(Clone, Copy)]
 struct Come {
     size: usize,
     ended: bool,
@@ -27,7 +29,7 @@ struct Come {
 }
 
 // How many bytes were handed to a write, and whether it went well.
-#[derive(Drop)]
+#[derive(Clone, Copy)]
 struct Shown {
     size: usize,
     fine: bool,

@@ -23,7 +23,7 @@ const TWO_48: u64 = 1 << 48;
 const TWO_56: u64 = 1 << 56;
 
 // Wide parts first: no padding (400 bytes).
-#[derive(Drop)]
+#[derive(Clone, Copy)]
 pub struct Chip {
     pub stamp: u64,
     pub queue: Queue,
@@ -34,7 +34,7 @@ pub struct Chip {
 }
 
 // An answer: the next chip, the value and the reply.
-#[derive(Drop)]
+#[derive(Clone, Copy)]
 pub struct Answer {
     pub chip: Chip,
     pub value: u64,

@@ -31,7 +31,7 @@ const ABOVE_32: u64 = 18446744069414584320;
 const ABOVE_56: u64 = 18374686479671623680;
 
 // Wide parts first (424 bytes, of which the last two are unused).
-#[derive(Drop)]
+#[derive(Clone, Copy)]
 pub struct Chip2 {
     pub stamp: u64,
     pub queue: Queue,
@@ -45,7 +45,7 @@ pub struct Chip2 {
 }
 
 // An answer: the next chip, the value and the reply.
-#[derive(Drop)]
+#[derive(Clone, Copy)]
 pub struct Answer {
     pub chip: Chip2,
     pub value: u64,

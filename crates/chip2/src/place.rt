@@ -2,7 +2,7 @@
 ghost use Rattle.std.specs.Prelude.{◌≡◌};
 ghost use Rattle.chip2.specs.Place.{place_of, register_of};
 
-#[derive(Drop)]
+#[derive(Clone, Copy)]
 pub enum Place {
     // Above 127.
     Beyond,

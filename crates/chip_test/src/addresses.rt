@@ -5,7 +5,7 @@ use control::reply::number_of;
 use printing::print;
 
 // What is gone through.
-#[derive(Drop)]
+#[derive(Clone, Copy)]
 pub enum Trial {
     Read,
     // Data, and processor lines.
@@ -15,7 +15,7 @@ pub enum Trial {
 }
 
 // Neighbours with the same answer that are not printed yet.
-#[derive(Drop)]
+#[derive(Clone, Copy)]
 struct Span {
     first: u64,
     last: u64,

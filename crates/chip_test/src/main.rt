@@ -1,4 +1,6 @@
 // Runs the chip's operations on document 01's cases and prints a line for each.
+#![tactic(auto)]
+
 mod addresses;
 mod counting;
 mod given;

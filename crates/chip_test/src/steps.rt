@@ -8,7 +8,7 @@ use printing::print;
 use words::parity::parities;
 
 // The table of parity bits that a send is lent.
-#[derive(Drop)]
+#[derive(Clone, Copy)]
 pub enum Table {
     // None: the plain send.
     Unlent,

@@ -4,7 +4,7 @@ ghost use Rattle.counters.specs.Bank.{bit};
 ghost use Rattle.control.specs.Control.{configured, csr_of, filtering, fresh_control, header_of, one, overran, pair, taken, overruns_cleared, waits_cleared, waited};
 
 // No padding (16 bytes). The Filter stands last: before the bools it makes every operation dearer (docs/PERFORMANCE.md, "Wait by default").
-#[derive(Drop)]
+#[derive(Clone, Copy)]
 pub struct Control {
     pub wait: u32,
     pub overrun: u32,

@@ -3,7 +3,7 @@ ghost use Rattle.std.specs.Prelude.{◌≡◌, ◌<◌};
 ghost use Rattle.counters2.specs.Fields.{clocking, enabling, field_at, fresh_fields, kept, moding, written_fields};
 
 // No padding (24 bytes).
-#[derive(Drop)]
+#[derive(Clone, Copy)]
 pub struct Fields {
     pub enable: u64,
     pub mode: u64,

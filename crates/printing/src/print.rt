@@ -26,7 +26,7 @@ pub fn heading(name: &[u8]) {
 }
 
 // Equal numbers that are not printed yet.
-#[derive(Drop)]
+#[derive(Clone, Copy)]
 pub struct Run {
     pub value: u64,
     pub count: u64,

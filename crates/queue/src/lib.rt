@@ -1,2 +1,4 @@
 // The queue: eight places for held samples, the first at place 0, and the word that is next.
+#![tactic(auto)]
+
 pub mod queue;

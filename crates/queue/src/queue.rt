@@ -11,7 +11,7 @@ use words::size::least;
 use words::word::word_by;
 
 // A held sample, but for a Resource sample's counters: no padding (24 bytes).
-#[derive(Drop)]
+#[derive(Clone, Copy)]
 pub struct Held {
     pub user: u64,
     pub stamp: u64,
@@ -20,7 +20,7 @@ pub struct Held {
 }
 
 // The places, how many hold a sample, and how many words of the first one are sent.
-#[derive(Drop)]
+#[derive(Clone, Copy)]
 pub struct Queue {
     pub places: [Held; 8],
     pub held: usize,
@@ -28,14 +28,14 @@ pub struct Queue {
 }
 
 // A queue after one word was sent, and the word.
-#[derive(Drop)]
+#[derive(Clone, Copy)]
 pub struct Sent {
     pub queue: Queue,
     pub word: u16,
 }
 
 // A queue after some words were sent into a buffer, and how many.
-#[derive(Drop)]
+#[derive(Clone, Copy)]
 pub struct SentMany {
     pub queue: Queue,
     pub count: u64,

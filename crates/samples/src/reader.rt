@@ -13,7 +13,7 @@ use words::size::least;
 use words::word::{byte, marked, odd_ones_by, too_large};
 
 // What a reader finds of a word, or of the words of a part.
-#[derive(Drop)]
+#[derive(Clone, Copy)]
 pub enum Verdict {
     Good,
     Unfinished,
@@ -25,7 +25,7 @@ pub enum Verdict {
 
 // The first sample and how many words it took, zeros beside any verdict but Good; and how many good words stand before the decision: the
 // deciding word's place, all of an unfinished part, or the words of the sample.
-#[derive(Drop)]
+#[derive(Clone, Copy)]
 pub struct Reading {
     pub sample: Sample,
     pub count: usize,
@@ -34,7 +34,7 @@ pub struct Reading {
 }
 
 // What decides, and how many good words stand before it.
-#[derive(Drop)]
+#[derive(Clone, Copy)]
 struct Decision {
     place: usize,
     verdict: Verdict,

@@ -6,7 +6,7 @@ use super::edition::{Edition, stamp_bytes, trace_bytes};
 use words::byte::byte_at;
 
 // Wide fields first, and the header as wide as the source address: no padding (88 bytes).
-#[derive(Drop)]
+#[derive(Clone, Copy)]
 pub struct Sample {
     pub user: u64,
     pub stamp: u64,

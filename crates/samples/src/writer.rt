@@ -20,7 +20,7 @@ const TWO_48: u64 = 1 << 48;
 const TWO_56: u64 = 1 << 56;
 
 // What writing a sample answers.
-#[derive(Drop)]
+#[derive(Clone, Copy)]
 pub enum Written {
     // How many words were written.
     Words(usize),

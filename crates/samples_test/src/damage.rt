@@ -20,7 +20,7 @@ const HEADER: u16 = 256 + 32;
 const ALL: u16 = 1024 + 512 + 32;
 
 // What the part has after the place.
-#[derive(Drop)]
+#[derive(Clone, Copy)]
 enum Rest {
     // The sample's other words.
     Good,
@@ -33,7 +33,7 @@ enum Rest {
 }
 
 // What is asked of a reading.
-#[derive(Drop)]
+#[derive(Clone, Copy)]
 enum Question {
     Answer,
     Count,

@@ -1,5 +1,7 @@
 // Runs the writer, the reader and the queue on document 01's cases, the reader on damage at every place of a sample too, for both editions of
 // the chip, and the table of parity bits that they go by, and prints what they give, one line a case.
+#![tactic(auto)]
+
 mod damage;
 mod given;
 mod places;

@@ -4,7 +4,7 @@ use words::parity::{parities, parity, parity_by};
 use words::word::{odd_ones, odd_ones_by, word, word_by};
 
 // What is asked of each number.
-#[derive(Drop)]
+#[derive(Clone, Copy)]
 enum Question {
     // Whether its byte's parity bit is the table's entry.
     Bit,

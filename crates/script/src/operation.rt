@@ -18,7 +18,7 @@ const TWO_24: u64 = 1 << 24;
 const TWO_32: u64 = 1 << 32;
 
 // What a record asks for; Bad is reply 9.
-#[derive(Drop)]
+#[derive(Clone, Copy)]
 pub enum Operation {
     Bad,
     // Whether the slow clock is to be a hundredth of the Timestamp's.
@@ -33,7 +33,7 @@ pub enum Operation {
 }
 
 // The next chip, the value, and document 01's reply number.
-#[derive(Drop)]
+#[derive(Clone, Copy)]
 pub struct Outcome {
     pub chip: Chip,
     pub value: u64,

@@ -10,7 +10,7 @@ use words::parity::parities;
 use words::size::least;
 
 // The chip after a block, how many records it took, and how many bytes of text it wrote.
-#[derive(Drop)]
+#[derive(Clone, Copy)]
 pub struct Block {
     pub chip: Chip2,
     pub records: usize,

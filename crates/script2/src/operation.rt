@@ -10,7 +10,7 @@ const TWO_16: u64 = 1 << 16;
 const TWO_32: u64 = 1 << 32;
 
 // What a record asks for; Bad is reply 9.
-#[derive(Drop)]
+#[derive(Clone, Copy)]
 pub enum Operation {
     Bad,
     Reset,

@@ -1,4 +1,6 @@
 // The walk over a capture, which carries on after a bad word: the sample or the gap at a place, and the place after it.
+#![tactic(auto)]
+
 ghost use Rattle.std.specs.Prelude.{◌≡◌};
 ghost use Rattle.samples.specs.Layout.{widths};
 ghost use Rattle.walk.specs.Walk.{after_boundary, answer_at, is_boundary, told};
@@ -11,7 +13,7 @@ use words::word::{marked, too_large};
 
 // What stands at a place of a capture. Good is a sample, and the others have zeros for one; Unfinished ends the walk and hands the place back;
 // all else is a gap.
-#[derive(Drop)]
+#[derive(Clone, Copy)]
 pub struct Step {
     pub sample: Sample,
     // The place after it.

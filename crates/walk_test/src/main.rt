@@ -1,4 +1,6 @@
 // Walks over captures, good and damaged, with both editions of the chip, and prints what the walk answers, one line a call.
+#![tactic(auto)]
+
 mod captures;
 mod damage;
 mod places;

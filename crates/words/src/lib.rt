@@ -1,4 +1,6 @@
 // A byte of a sample as a ten-bit word of the stream and back, the bytes of a number, and the least of two sizes.
+#![tactic(auto)]
+
 pub mod byte;
 pub mod parity;
 pub mod size;
