@@ -4,23 +4,13 @@ use Rattle.counters.specs.Bank.{bit, counting}
 use Rattle.counters.specs.Due.{due, due_mask}
 use Rattle.counters.proofs.BitLaws.{mask_due}
 use Rattle.counters.proofs.EachLaws.{counting_same}
-use Rattle.counters.proofs.bank.Bank.ticked.Statement.{statement}
-use Rattle.counters.proofs.bank.Bank.ticked.Tie as tie
+use Rattle.counters.proofs.bank.Bank.ticked.Goals as goal
 
-due-to-requires : tie.Need-due-to-requires
-due-to-requires c κs = search rules
-
-counted-requires : tie.Need-counted-requires
-counted-requires c κs = search rules
-
-returns : tie.Need-returns
+pub returns : goal.returns
 returns c =
-    let a = c.before.before.args in
+    let a = c.args in
     let sixteen : length a.self.values ≡ 16 = search rules in
     c.counted.ensures
-    ∙ ap (λ (m : ℕ). counting (bit m) a.times a.self) c.before.due-to.ensures
+    ∙ ap (λ (m : ℕ). counting (bit m) a.times a.self) c.due_to.ensures
     ∙ counting_same (bit (due_mask a.kind a.s)) (due a.kind a.s) a.times a.self
     (λ i p. mask_due a.kind a.s i (omega arith) (search rules) (search rules))
-
-pub ticked-spec : {M : Type 1} → statement M
-ticked-spec = tie.close (tie.spec due-to-requires counted-requires returns)

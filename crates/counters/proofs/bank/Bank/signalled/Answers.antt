@@ -6,25 +6,15 @@ use Rattle.counters.specs.Due.{due, due_mask}
 use Rattle.counters.specs.declared.switches.Kind.TheVariants.{External}
 use Rattle.counters.proofs.BitLaws.{bit_and_lem, mask_due}
 use Rattle.counters.proofs.EachLaws.{counting_same}
-use Rattle.counters.proofs.bank.Bank.signalled.Statement.{statement}
-use Rattle.counters.proofs.bank.Bank.signalled.Tie as tie
+use Rattle.counters.proofs.bank.Bank.signalled.Goals as goal
 
-due-to-requires : tie.Need-due-to-requires
-due-to-requires c κs = search rules
-
-counted-requires : tie.Need-counted-requires
-counted-requires c κs = search rules
-
-returns : tie.Need-returns
+pub returns : goal.returns
 returns c =
-    let a = c.before.before.args in
+    let a = c.args in
     let sixteen : length a.self.values ≡ 16 = search rules in
     c.counted.ensures
-    ∙ ap (λ (m : ℕ). counting (bit (bit_and a.mask m)) 1 a.self) c.before.due-to.ensures
+    ∙ ap (λ (m : ℕ). counting (bit (bit_and a.mask m)) 1 a.self) c.due_to.ensures
     ∙ counting_same (bit (bit_and a.mask (due_mask External a.s))) (λ i. bit a.mask i && due External a.s i) 1 a.self
     (λ i p.
     bit_and_lem a.mask (due_mask External a.s) i
     ∙ ap (λ (b : Bool). bit a.mask i && b) (mask_due External a.s i (omega arith) (search rules) (search rules)))
-
-pub signalled-spec : {M : Type 1} → statement M
-signalled-spec = tie.close (tie.spec due-to-requires counted-requires returns)
