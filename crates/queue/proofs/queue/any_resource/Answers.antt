@@ -1,7 +1,7 @@
 -- `queue::queue::any_resource` meets its contract: none of the places passed has a Resource sample. Assumes nothing.
 use borrow.Author.Rules.{rules}
 use native.Mathlib.Omega.{arith}
-use Prim.Native.Nat.{ℕ, suc, ◌-◌, min}
+use Prim.Native.Nat.{ℕ, suc, min}
 use native.Mathlib.Numerals.{add-one}
 use mathlib.Core.Path.{◌≡◌, refl, sym, ap, ◌∙◌}
 use mathlib.Core.Bool.{Bool, true, false, ◌||◌, or-true}

@@ -1,6 +1,5 @@
 -- `queue::queue::stored` meets its contract: after i turns the sample stands at its place if that one was visited. Assumes nothing.
 use borrow.Author.Rules.{rules}
-use Prim.Native.Nat.{◌-◌}
 use native.Mathlib.Omega.{arith}
 use native.Mathlib.Numerals.{add-one}
 use mathlib.Core.Path.{◌≡◌, ap, ◌∙◌}

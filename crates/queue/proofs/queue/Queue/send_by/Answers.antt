@@ -1,4 +1,4 @@
--- `queue::queue::Queue::send_by_lem` meets its contract: the test decides, then the word and the queue after it. Assumes nothing.
+-- `queue::queue::Queue::send_by` meets its contract: the test decides, then the word and the queue after it. Assumes nothing.
 use borrow.Author.Tests.{eq-eqb, ne_eqb}
 use mathlib.Core.Path.{sym, ◌∙◌}
 use Rattle.samples.specs.Layout.{widths}

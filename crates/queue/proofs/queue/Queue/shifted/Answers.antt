@@ -2,7 +2,7 @@
 use borrow.Author.Rules.{rules}
 use mathlib.Core.Path.{◌≡◌, ap, ◌∙◌}
 use mathlib.Core.List.{[], ◌∷◌}
-use lib.ListN.{length, get_or, length-map}
+use lib.ListN.{length, get_or}
 use Rattle.queue.specs.Queue.{zero_held}
 use Rattle.queue.specs.declared.queue.Held.{Held}
 use Rattle.queue.proofs.QueueLaws.{seven}
