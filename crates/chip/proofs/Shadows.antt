@@ -8,7 +8,6 @@ use lib.Dec.{eqb, leb}
 use lib.ListN.{get_or}
 use borrow.Author.Tests.{lt-leb, ne_eqb}
 use Rattle.counters.specs.Bank.{copied}
-use Rattle.queue.specs.Queue.{busy}
 use Rattle.control.specs.Control.{waited}
 use Rattle.control.specs.Fate.{Fate, is_off, is_filtered, is_lost, is_told, is_taken}
 use Rattle.control.specs.declared.reply.Reply.TheVariants.{Busy, Outside, Wait}

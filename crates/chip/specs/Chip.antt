@@ -1,5 +1,5 @@
 -- Document 01, "The chip's operations": the record, and what each operation answers and leaves. Each part below names its paragraph.
-use Rattle.std.specs.Prelude.{ℕ, ◌+◌, ◌%◌, ◌^◌, Bool, true, false, cond, ◌&&◌, ◌||◌, List, ltb, eqb, get_or, set, replicate}
+use Rattle.std.specs.Prelude.{ℕ, ◌+◌, ◌%◌, ◌^◌, Bool, false, cond, ◌&&◌, ◌||◌, List, ltb, eqb, get_or, set, replicate}
 use Rattle.std.specs.Int.Count.{ones_in, count_trailing_zeros}
 use Rattle.counters.specs.Bank.{bit, cleared, copied, zero_bank}
 use Rattle.counters.specs.Due.{disabling, divisor_of, enabling, fired, selecting, selection, signalled, slow_events, ticked, ticking, zero_switches}

@@ -1,6 +1,6 @@
 -- Document 001, "Resource Counters" and Tables B5 to B7, with Wish 9 of document 02: what each event does to the sixteen counters. Counters wrap
 -- (document 01).
-use Rattle.std.specs.Prelude.{ℕ, zero, suc, ◌+◌, ◌/◌, ◌%◌, ◌^◌, Bool, false, cond, ◌&&◌, ◌||◌, List, set, ◌==◌, nat_le, slice_index, slice_set}
+use Rattle.std.specs.Prelude.{ℕ, zero, suc, ◌+◌, ◌/◌, ◌%◌, ◌^◌, Bool, false, cond, ◌&&◌, ◌||◌, List, ◌==◌, nat_le, slice_index, slice_set}
 use Rattle.counters.specs.Bank.{bit, each, grown}
 use Rattle.counters.specs.declared.bank.Bank.{Bank}
 use Rattle.counters2.specs.Clocks.{selected}

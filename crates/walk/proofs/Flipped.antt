@@ -2,7 +2,7 @@
 -- word of it, where the word in its place is at most 1023, has an even number of ones in bits 0 to 8 and the end mark as it was, and so for
 -- every flip of one of bits 0 to 8. Its words are then a damaged stretch: the words before it are good, and the last alone is a boundary.
 -- Assumes nothing.
-use Prim.Native.Nat.{ℕ, zero, suc, ◌+◌, ◌-◌, ◌≤◌, ◌<◌}
+use Prim.Native.Nat.{ℕ, zero, suc, ◌-◌, ◌≤◌, ◌<◌}
 use native.Mathlib.Omega.{arith}
 use mathlib.Core.Path.{◌≡◌, refl, sym, ap, ◌∙◌, subst}
 use mathlib.Core.Bool.{Bool, true, false}

@@ -5,33 +5,30 @@ use Prim.Native.Nat.{ℕ, suc, ◌+◌, ◌-◌, ◌^◌, ◌<◌, ◌≤◌}
 use native.Mathlib.Nat.{lt_of_lt_of_le, pow-le-pow_right, zero-lt-suc, sub_self, sub-zero, add-zero}
 use native.Mathlib.Omega.{arith}
 use mathlib.Core.Path.{◌≡◌, sym, ap, ◌∙◌, subst}
-use mathlib.Core.List.{map}
+use mathlib.Core.List.{map, List}
 use lib.ListN.{length, get_or, take, drop, length-map, get_or-map}
 use Rattle.words.specs.Bytes.{number}
 use Rattle.words.specs.Word.{byte_of}
 use Rattle.samples.proofs.ReadLaws.{number_step, number_take, drop_below, map_below}
-use Rattle.samples.proofs.reader.number_at.Goals.{In-loop-left}
 use Rattle.samples.proofs.reader.number_at.Goals as goal
 
 -- before a turn the sum has at most seven bytes
-seven : (c : In-loop-left invariant-loop decreases-loop) → c.loop-left.sum < 256 ^ 7
-seven c =
-    let a = c.args in
-    let l = c.loop-left in
-    let bytes = drop (a.start + l.left) (map byte_of a.part.now) in
-    let small : number (take (a.size - l.left) bytes) < 256 ^ (a.size - l.left) = number_take (a.size - l.left) bytes (drop_below (a.start + l.left) (map byte_of a.part.now) (map_below a.part.now)) in
-    let few : a.size - l.left ≤ 7 = omega arith in
-    subst (λ (s : ℕ). s < 256 ^ 7) (sym l.invariant.1) (lt_of_lt_of_le small (pow-le-pow_right (zero-lt-suc 255) few))
+seven : (ws : List ℕ) (start size left sum : ℕ) → size ≤ 8 → 0 < left → sum ≡ number (take (size - left) (drop (start + left) (map byte_of ws))) → sum < 256 ^ 7
+seven ws start size left sum most some e =
+    let bytes = drop (start + left) (map byte_of ws) in
+    let small : number (take (size - left) bytes) < 256 ^ (size - left) = number_take (size - left) bytes (drop_below (start + left) (map byte_of ws) (map_below ws)) in
+    let few : size - left ≤ 7 = omega arith in
+    subst (λ (s : ℕ). s < 256 ^ 7) (sym e) (lt_of_lt_of_le small (pow-le-pow_right (zero-lt-suc 255) few))
 
 pub loop-left-init : goal.loop-left-init
 unfolding number
 loop-left-init c = (search rules, rw sub_self)
 
 pub overflow_mul-sum : goal.overflow_mul-sum
-overflow_mul-sum c = omega (arith, seven c)
+overflow_mul-sum c = omega (arith, seven c.args.part.now c.args.start c.args.size c.loop-left.left c.loop-left.sum c.requires.1 (search rules) c.loop-left.invariant.1)
 
 pub overflow_add-sum : goal.overflow_add-sum
-overflow_add-sum c = omega (arith, seven c.before.before)
+overflow_add-sum c = omega (arith, seven c.args.part.now c.args.start c.args.size c.loop-left.left c.loop-left.sum c.requires.1 (search rules) c.loop-left.invariant.1)
 
 pub loop-left-preserved : goal.loop-left-preserved
 loop-left-preserved c =

@@ -15,13 +15,13 @@ pub returns-then-i-lt16 : goal.returns-then-i-lt16
 unfolding counter_bytes
 returns-then-i-lt16 c =
     let a = c.args in
-    c.byte_at.ensures ∙ sym (spread_each 4 16 a.t1 a.place (zero-lt-suc 3) (search rules))
+    c.byte_at.ensures ∙ sym (spread_each 4 16 a.counters a.place (zero-lt-suc 3) (search rules))
 
 pub returns-else-i-lt16 : goal.returns-else-i-lt16
 unfolding counter_bytes
 returns-else-i-lt16 c =
     let a = c.args in
     sym
-    (spread_each 4 16 a.t1 a.place (zero-lt-suc 3) (search rules)
-    ∙ ap (λ (x : ℕ). byte_at x (a.place % 4)) (get_or-eq_default a.t1 0 (search rules))
+    (spread_each 4 16 a.counters a.place (zero-lt-suc 3) (search rules)
+    ∙ ap (λ (x : ℕ). byte_at x (a.place % 4)) (get_or-eq_default a.counters 0 (search rules))
     ∙ byte_past 0 0 (a.place % 4) (zero-lt-suc 0) zero-le)

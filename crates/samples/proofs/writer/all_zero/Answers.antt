@@ -1,7 +1,7 @@
 -- `samples::writer::all_zero` meets its contract: the counters are all zero exactly where those from i on are, at each turn.
 -- Assumes nothing.
 use borrow.Author.Rules.{rules}
-use Prim.Native.Nat.{suc, ◌-◌}
+use Prim.Native.Nat.{suc}
 use native.Mathlib.Numerals.{add-one}
 use mathlib.Core.Path.{refl, sym, ap, ◌∙◌}
 use mathlib.Core.Bool.{Bool, ◌&&◌}
@@ -17,7 +17,7 @@ loop-i-init c = (search rules, refl)
 pub returns-then-counters-i-ne0 : goal.returns-then-counters-i-ne0
 returns-then-counters-i-ne0 c =
     let i = c.loop-i.i in
-    let a = c.args.t1 in
+    let a = c.args.counters in
     sym
     (c.loop-i.invariant.1 ∙ zero_step a i (search rules)
     ∙ ap (λ (b : Bool). b && all_zero (drop (suc i) a)) (ne_eqb (get_or a i 0) 0 c.if-counters-i-ne0.true))
@@ -25,7 +25,7 @@ returns-then-counters-i-ne0 c =
 pub loop-i-preserved : goal.loop-i-preserved
 loop-i-preserved c =
     let i = c.loop-i.i in
-    let a = c.args.t1 in (
+    let a = c.args.counters in (
       search rules,
       rw add-one
           (c.loop-i.invariant.1 ∙ zero_step a i (search rules)
@@ -35,5 +35,5 @@ loop-i-preserved c =
 pub returns : goal.returns
 unfolding all_zero
 returns c =
-    let a = c.args.t1 in
+    let a = c.args.counters in
     sym (c.loop-i.invariant.1 ∙ ap all_zero (drop_of_length-le a {i = c.loop-i.i} (search rules)))

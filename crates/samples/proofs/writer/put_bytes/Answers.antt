@@ -22,7 +22,7 @@ put_counters-requires c =
     let long : resource a.sample.header ≡ true = sym r.is_resource-with_counters.ensures ∙ c.if-with_counters.true in
     let size : sample_length w (resource a.sample.header) ≡ sample_length w true = ap (sample_length w) long in
     let same = ap length f.put_fields.ensures ∙ length-sets a.out.now 0 (plain (field_bytes w a.sample.header a.sample.source a.sample.stamp a.sample.user)) in
-    (s.requires.0, omega (arith, c.trace_bytes.ensures, s.requires.1, same))
+    record { table_value = s.requires.table_value; start_in_bounds = omega (arith, c.trace_bytes.ensures, s.requires.header_in_bounds, same) }
 
 pub returns-then-with_counters : goal.returns-then-with_counters
 returns-then-with_counters c =

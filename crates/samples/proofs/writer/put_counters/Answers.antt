@@ -22,7 +22,7 @@ pub loop-i-preserved : goal.loop-i-preserved
 loop-i-preserved c =
     let a = c.args in
     let l = c.loop-i in
-    let xs = a.t2 in
+    let xs = a.counters in
     let p = a.start + 4 * l.i in
     let n = 16 - (l.i + 1) in
     let sixteen : length xs ≡ 16 = search rules in
@@ -46,4 +46,4 @@ returns c =
     let a = c.args in
     let l = c.loop-i in
     let none : 16 - l.i ≡ 0 = omega arith in
-    sym (l.invariant.2 ∙ ap (λ (k : ℕ). put l.out (a.start + 4 * l.i) k (drop l.i a.t2)) none)
+    sym (l.invariant.2 ∙ ap (λ (k : ℕ). put l.out (a.start + 4 * l.i) k (drop l.i a.counters)) none)

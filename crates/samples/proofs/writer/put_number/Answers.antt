@@ -35,7 +35,7 @@ loop-i-preserved c =
     let more : a.size - l.i ≡ suc n = omega arith in
     let next : suc p ≡ a.at + (l.i + 1) = omega arith in
     let here : c.word_by.result ≡ word_of false (l.rest % 256) =
-    c.word_by.ensures ∙ ap (λ (t : List ℕ). word_by t false (l.rest % 256)) s.requires.0
+    c.word_by.ensures ∙ ap (λ (t : List ℕ). word_by t false (l.rest % 256)) s.requires.table_value
     ∙ word_by_lem false (l.rest % 256) (mod-lt l.rest (zero-lt-suc 255)) in (
       search rules,
       length-set l.out p c.word_by.result ∙ l.invariant.1,

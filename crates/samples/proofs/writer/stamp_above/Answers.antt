@@ -7,7 +7,7 @@ use Rattle.samples.specs.declared.edition.Edition.{Edition}
 use Rattle.samples.proofs.writer.stamp_above.Goals as goal
 
 pub returns-in-First : goal.returns-in-First
-returns-in-First c = ap (λ (e : Edition). leb (256 ^ (widths e).stamp_bytes) c.args.stamp) (sym c.enum_told-1.given.1)
+returns-in-First c = ap (λ (e : Edition). leb (256 ^ (widths e).stamp_bytes) c.args.stamp) (sym c.in-First.is)
 
 pub returns-in-Second : goal.returns-in-Second
-returns-in-Second c = ap (λ (e : Edition). leb (256 ^ (widths e).stamp_bytes) c.args.stamp) (sym c.enum_told-in-Second-1.given.1)
+returns-in-Second c = ap (λ (e : Edition). leb (256 ^ (widths e).stamp_bytes) c.args.stamp) (sym c.in-Second.is)

@@ -9,9 +9,9 @@ use Rattle.samples.proofs.EditionLaws.{user_never_above}
 use Rattle.samples.proofs.writer.user_above.Goals as goal
 
 pub returns-in-First : goal.returns-in-First
-returns-in-First c = ap (λ (e : Edition). leb (256 ^ (widths e).user_bytes) c.args.user) (sym c.enum_told-1.given.1)
+returns-in-First c = ap (λ (e : Edition). leb (256 ^ (widths e).user_bytes) c.args.user) (sym c.in-First.is)
 
 pub returns-in-Second : goal.returns-in-Second
 returns-in-Second c =
     let u = c.args.user in
-    sym (user_never_above u (search rules)) ∙ ap (λ (e : Edition). leb (256 ^ (widths e).user_bytes) u) (sym c.enum_told-in-Second-1.given.1)
+    sym (user_never_above u (search rules)) ∙ ap (λ (e : Edition). leb (256 ^ (widths e).user_bytes) u) (sym c.in-Second.is)

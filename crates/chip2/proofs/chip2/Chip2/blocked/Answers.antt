@@ -1,0 +1,13 @@
+-- `chip2::chip2::Chip2::blocked` meets its contract: the test decides. Assumes nothing.
+use mathlib.Core.Path.{sym, ap, ◌∙◌}
+use mathlib.Core.Bool.{Bool, ◌&&◌}
+use Rattle.queue.specs.Queue.{busy}
+use Rattle.chip2.proofs.chip2.Chip2.blocked.Goals as goal
+
+pub returns-then-resource : goal.returns-then-resource
+returns-then-resource c =
+    let a = c.args in
+    c.busy.ensures ∙ ap (λ (b : Bool). b && busy a.self.queue) (sym c.if-resource.true)
+
+pub returns-else-resource : goal.returns-else-resource
+returns-else-resource c = rw c.if-resource.false

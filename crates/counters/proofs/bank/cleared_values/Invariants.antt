@@ -1,0 +1,15 @@
+-- What holds at each turn of the loop.
+use Rattle.std.proofs.Common.{◌≡◌, ℕ, ◌-◌, ◌≤◌, cond}
+use Rattle.counters.specs.Bank.{bit}
+use Rattle.counters.proofs.EachLaws.{turned}
+use Rattle.counters.proofs.bank.cleared_values.Given as goal
+
+-- what becomes of counter i with the number v
+abbrev pub next : ℕ → ℕ → ℕ → ℕ
+next mask i v = cond (bit mask i) 0 v
+
+abbrev pub invariant-loop-i : goal.invariant-loop-i
+invariant-loop-i l = (l.i ≤ 16) × (l.values ≡ turned (next l.mask) l.initial.values l.i)
+
+abbrev pub decreases-loop-i : goal.decreases-loop-i
+decreases-loop-i l = 16 - l.i
