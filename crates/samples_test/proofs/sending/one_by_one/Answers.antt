@@ -1,6 +1,5 @@
 -- `samples_test::sending::one_by_one` is safe and ends: it counts to the buffer's length, which stays. Assumes nothing.
 use borrow.Author.Rules.{rules}
-use Prim.Native.Nat.{◌-◌}
 use mathlib.Core.Path.{refl, ◌∙◌}
 use lib.ListN.{length-set}
 use Rattle.samples_test.proofs.sending.one_by_one.Goals as goal
