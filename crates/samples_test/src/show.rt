@@ -1,11 +1,12 @@
 // Lines for a person to read, with document 01's numbers for the answers.
-use libc::STDOUT_FILENO;
 use printing::print;
 use samples::edition::Edition;
 use samples::reader::{Reading, verdict_number};
 use samples::sample::Sample;
 use samples::writer::{Written, written_count, written_number};
 use words::word::byte;
+
+const STDOUT_FILENO: i32 = 1;
 
 fn fields(sample: Sample) {
     print::field(b"header ", sample.header as u64);
