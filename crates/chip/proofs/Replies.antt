@@ -3,7 +3,7 @@
 use Prim.Native.Nat.{ℕ, ◌-◌, ◌%◌, ◌≤◌, ◌<◌}
 use native.Mathlib.Omega.{arith}
 use mathlib.Core.Path.{◌≡◌, refl, sym, ap, ap₂, ◌∙◌}
-use mathlib.Core.Bool.{Bool, true, false, cond, not, ◌&&◌, ◌||◌, and-false}
+use mathlib.Core.Bool.{Bool, true, false, cond, not, ◌&&◌, ◌||◌, and-false, false≢true}
 use mathlib.Core.List.{List, [], ◌∷◌, map}
 use lib.Dec.{leb, ltb, eqb}
 use lib.ListN.{get_or}
@@ -254,6 +254,41 @@ module _ (op : Operation) (c : Chip) where
 
   pub reply_0 : eqb (step op c).number 0 ≡ row0 op c
   reply_0 = row_at 11
+
+-- ---- no other number
+
+unfoldable pub some_true : List Bool → Bool
+some_true [] = false
+some_true (b ∷ bs) = b || some_true bs
+
+-- one row always holds
+pub table_some : (x15 x1 x2 x3 x4 x5 x6 x7 x8 x10 x11 : Bool) → some_true (table x15 x1 x2 x3 x4 x5 x6 x7 x8 x10 x11) ≡ true
+unfolding some_true
+table_some true x1 x2 x3 x4 x5 x6 x7 x8 x10 x11 = refl
+table_some false true x2 x3 x4 x5 x6 x7 x8 x10 x11 = refl
+table_some false false true x3 x4 x5 x6 x7 x8 x10 x11 = refl
+table_some false false false true x4 x5 x6 x7 x8 x10 x11 = refl
+table_some false false false false true x5 x6 x7 x8 x10 x11 = refl
+table_some false false false false false true x6 x7 x8 x10 x11 = refl
+table_some false false false false false false true x7 x8 x10 x11 = refl
+table_some false false false false false false false true x8 x10 x11 = refl
+table_some false false false false false false false false true x10 x11 = refl
+table_some false false false false false false false false false true x11 = refl
+table_some false false false false false false false false false false true = refl
+table_some false false false false false false false false false false false = refl
+
+-- so a number that no row has isn't given
+pub other_number : (n : ℕ) (rs : List Bool) → marks n ≡ rs → some_true rs ≡ true → (m : ℕ) → some_true (marks m) ≡ false → eqb n m ≡ false
+other_number n rs e some m none =
+    ne_eqb n m (λ q. false≢true (sym none ∙ ap (λ (k : ℕ). some_true (marks k)) (sym q) ∙ ap some_true e ∙ some))
+
+-- 9, which is the bench program's, and 12, 13 and 14, which no table of replies has, are never given
+pub no_others : (op : Operation) (c : Chip) → let n = (step op c).number in (eqb n 9 ≡ false) × (eqb n 12 ≡ false) × (eqb n 13 ≡ false) × (eqb n 14 ≡ false)
+unfolding some_true
+no_others op c =
+    let some = table_some (row15 op c) (row1 op c) (row2 op c) (row3 op c) (row4 op c) (row5 op c) (row6 op c) (row7 op c) (row8 op c) (row10 op c) (row11 op c) in
+    let other : (m : ℕ) → some_true (marks m) ≡ false → eqb (step op c).number m ≡ false = other_number (step op c).number (rows op c) (all_rows op c) some in
+    (other 9 refl, other 12 refl, other 13 refl, other 14 refl)
 
 -- ---- "Any two replies allowed by a promise are shown equal"
 

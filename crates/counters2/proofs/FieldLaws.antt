@@ -1,8 +1,10 @@
 -- Laws of the fields of a register: field i after a write is the data's where its low bits aren't zero, else the old one; a register is known by
 -- its fields. By induction on how many there are. Assumes nothing.
-use Rattle.std.proofs.Common.{◌≡◌, ℕ, zero, suc, ◌+◌, ◌-◌, ◌*◌, ◌/◌, ◌%◌, ◌^◌, ◌<◌, ◌≤◌, Bool, true, false, cond, eqb, sym, ap, ◌∙◌, ap₂, lt_of_lt_of_le, le_of_suc-le-suc, not-suc-le-zero, mod-lt, zero-lt-suc, add_comm, div-one, arith, pow_mono, pow-add, shr-shr}
+use Rattle.std.proofs.Common.{◌≡◌, ℕ, zero, suc, ◌+◌, ◌-◌, ◌*◌, ◌/◌, ◌%◌, ◌^◌, ◌<◌, ◌≤◌, Bool, true, false, cond, not, ◌&&◌, eqb, sym, refl, ap, ◌∙◌, ap₂, lt_of_lt_of_le, le_of_suc-le-suc, not-suc-le-zero, mod-lt, zero-lt-suc, add_comm, div-one, arith, pow_mono, pow-add, shr-shr, eq-eqb, ne_eqb}
 use native.Mathlib.Nat.{div-eq_of_lt}
-use Rattle.counters2.specs.Fields.{field_at, kept, written_fields}
+use mathlib.Core.Bool.{false≢true}
+use Rattle.words.proofs.WordLaws.{both_left, both_right}
+use Rattle.counters2.specs.Fields.{field_at, kept, none_zero, written_fields}
 
 -- the bits from the next field on
 pub next_field : (x i : ℕ) → x / 2 ^ (4 * suc i) ≡ x / 2 ^ (4 * i) / 16
@@ -81,3 +83,34 @@ fields_same (suc n) x y h k same =
     fields_same n (x / 16) (y / 16) (omega arith) (omega arith) (λ i p. sym (field_suc x i) ∙ same (suc i) (omega arith) ∙ field_suc y i) in
     let first : x % 16 ≡ y % 16 = sym (field_zero x) ∙ same 0 (zero-lt-suc n) ∙ field_zero y in
     omega arith
+
+-- whether none of the fields from i on is zero in its low bits: the first of them and the rest
+pub none_from : (n low x i : ℕ) → none_zero (suc n) low (x / 2 ^ (4 * i)) ≡ not (eqb (field_at x i % low) 0) && none_zero n low (x / 2 ^ (4 * suc i))
+unfolding none_zero
+none_from n low x i = ap (λ (y : ℕ). not (eqb (field_at x i % low) 0) && none_zero n low y) (sym (next_field x i))
+
+pub none_step : (low x i : ℕ) {zeroed : Bool} → i < 16 → eqb (field_at x i % low) 0 ≡ zeroed → none_zero (16 - i) low (x / 2 ^ (4 * i)) ≡ not zeroed && none_zero (16 - suc i) low (x / 2 ^ (4 * suc i))
+none_step low x i h e =
+    let more : 16 - i ≡ suc (16 - suc i) = omega arith in
+    ap (λ (n : ℕ). none_zero n low (x / 2 ^ (4 * i))) more
+    ∙ none_from (16 - suc i) low x i
+    ∙ ap (λ (b : Bool). not b && none_zero (16 - suc i) low (x / 2 ^ (4 * suc i))) e
+
+-- that none is, field by field
+pub none_each : (n low x : ℕ) → none_zero n low x ≡ true → (i : ℕ) → i < n → field_at x i % low ≡ 0 → ⊥
+unfolding none_zero
+none_each zero low x e i h q = not-suc-le-zero h
+none_each (suc n) low x e zero h q =
+    let here : eqb (x % 16 % low) 0 ≡ true = eq-eqb (x % 16 % low) 0 (ap (λ (y : ℕ). y % low) (sym (field_zero x)) ∙ q) in
+    false≢true (sym (ap not here) ∙ both_left (not (eqb (x % 16 % low) 0)) (none_zero n low (x / 16)) e)
+none_each (suc n) low x e (suc i) h q =
+    none_each n low (x / 16) (both_right (not (eqb (x % 16 % low) 0)) (none_zero n low (x / 16)) e) i (le_of_suc-le-suc h)
+    (ap (λ (y : ℕ). y % low) (sym (field_suc x i)) ∙ q)
+
+pub each_none : (n low x : ℕ) → ((i : ℕ) → i < n → field_at x i % low ≡ 0 → ⊥) → none_zero n low x ≡ true
+unfolding none_zero
+each_none zero low x h = refl
+each_none (suc n) low x h =
+    ap₂ (λ (a b : Bool). not a && b)
+    (ne_eqb (x % 16 % low) 0 (λ q. h 0 (zero-lt-suc n) (ap (λ (y : ℕ). y % low) (field_zero x) ∙ q)))
+    (each_none n low (x / 16) (λ i p q. h (suc i) (omega arith) (ap (λ (y : ℕ). y % low) (field_suc x i) ∙ q)))

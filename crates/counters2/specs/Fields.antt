@@ -1,6 +1,6 @@
 -- Document 001, "Resource Counter Control Registers" and Tables B5 to B7: Enable, Mode and Clock Select, 64 bits each, "divided into 16 4-bit
 -- fields, one for each of the 16 Resource Counters": field i in bits 4i to 4i + 3.
-use Rattle.std.specs.Prelude.{ℕ, zero, suc, ◌+◌, ◌*◌, ◌/◌, ◌%◌, ◌^◌, cond, ◌==◌}
+use Rattle.std.specs.Prelude.{ℕ, zero, suc, ◌+◌, ◌*◌, ◌/◌, ◌%◌, ◌^◌, Bool, true, cond, not, ◌&&◌, ◌==◌}
 use Rattle.counters2.specs.declared.fields.Fields.{Fields}
 
 abbrev pub field_at : ℕ → ℕ → ℕ
@@ -34,3 +34,16 @@ alike (suc n) field = field + 16 * alike n field
 -- after a reset: "** default setting" of the tables, disabled, external and single, Timestamp clock; their x bits 0 (house)
 abbrev pub fresh_fields : Fields
 fresh_fields = record { enable = alike 16 1; mode = alike 16 4; select = alike 16 4 }
+
+-- Wish 10 of document 02, "disable all counters": "every Enable field is 0001" (docs/DECISIONS.md), as after a reset; Mode and Clock Select stay
+abbrev pub disabled : Fields → Fields
+disabled f = record { enable = alike 16 1; mode = f.mode; select = f.select }
+
+-- Wish 10 of document 02: "a saved field that its register can never hold". No write leaves one that is zero in its low bits: none of n fields is
+unfoldable pub none_zero : ℕ → ℕ → ℕ → Bool
+none_zero zero low x = true
+none_zero (suc n) low x = not (x % 16 % low == 0) && none_zero n low (x / 16)
+
+-- "an Enable field with low bits 00, a Mode or Clock Select field with low bits 000, which no operation can make a register hold" (docs/DECISIONS.md): none is
+abbrev pub holdable : Fields → Bool
+holdable f = none_zero 16 4 f.enable && (none_zero 16 8 f.mode && none_zero 16 8 f.select)

@@ -1,6 +1,6 @@
 // The three control registers of the sixteen counters: sixteen fields of four bits each, field i in bits 4i to 4i + 3.
 ghost use Rattle.std.specs.Prelude.{◌≡◌, ◌<◌};
-ghost use Rattle.counters2.specs.Fields.{clocking, enabling, field_at, fresh_fields, kept, moding, written_fields};
+ghost use Rattle.counters2.specs.Fields.{clocking, disabled, enabling, field_at, fresh_fields, holdable, kept, moding, none_zero, written_fields};
 
 // No padding (24 bytes).
 #[derive(Clone, Copy)]
@@ -47,6 +47,36 @@ impl Fields {
         self.select = written(self.select, bits, 8);
         self
     }
+
+    // Every counter disabled; what it counts stays.
+    pub fn disabled(mut self) -> Fields
+        ensures { result ≡ disabled self }
+    {
+        self.enable = ONES;
+        self
+    }
+
+    // Whether each field is one that its register can hold.
+    pub fn holdable(self) -> bool
+        ensures { result ≡ holdable self }
+    {
+        none_zero(self.enable, 4) & (none_zero(self.mode, 8) & none_zero(self.select, 8))
+    }
+}
+
+// Whether no field of a register is zero below `low`.
+fn none_zero(bits: u64, low: u64) -> bool
+    requires { 0 < low }
+    ensures { result ≡ none_zero 16 low bits }
+{
+    let mut i: usize = 0;
+    while i < 16 {
+        if field(bits, i) % low == 0 {
+            return false;
+        }
+        i += 1;
+    }
+    true
 }
 
 // A register after a write: a field that is zero below `low` stays. From the highest field down.

@@ -3,9 +3,9 @@
 use Prim.Native.Nat.{ℕ, ◌%◌, ◌^◌}
 use native.Mathlib.Nat.{mod-lt}
 use mathlib.Core.Path.{◌≡◌, ap₂, subst}
-use mathlib.Core.Bool.{Bool, true, ◌&&◌}
+use mathlib.Core.Bool.{Bool, true, cond, ◌&&◌}
 use mathlib.Core.List.{List, map}
-use lib.ListN.{length}
+use lib.ListN.{length, get_or}
 use lib.Pow.{pow_pos}
 use borrow.Author.Tests.{lt-ltb}
 use Rattle.counters.specs.Due.{divisor_of}
@@ -18,7 +18,8 @@ use Rattle.chip.specs.Chip.{guarded, inside}
 use Rattle.chip.specs.Told.{Told}
 use Rattle.chip.specs.declared.chip.Chip.{Chip}
 use Rattle.chip.proofs.ChipLaws.{guard_in}
-use Rattle.history.specs.Ledger.{Entry, Ledger, packed}
+use Rattle.history.specs.Ledger.{Entry, Ledger, packed, sent_more, tells}
+use Rattle.history.specs.Stream.{words_of_all}
 use Rattle.history.proofs.ControlLaws.{control_by}
 use Rattle.history.proofs.CountLaws.{value_of}
 use Rattle.history.proofs.HeldLaws.{Sixteen}
@@ -65,6 +66,10 @@ pub record Kept (e : Entry) (t : Told) : Type 0 where
   pub agrees : Agrees e.ledger t.chip
   pub number : t.number ≡ e.number
   pub value : t.value ≡ e.value
+
+-- a single send, by whether nothing is left
+abbrev pub send_entry : Ledger → Bool → Entry
+send_entry l none = cond none (tells 5 0 l) (tells 0 (get_or (words_of_all First l.taken) l.sent 0) (sent_more 1 l))
 
 -- such a record is inside its bounds, so no operation replies 15
 pub for_inside : (l : Ledger) (q : Queue) (sh : List ℕ) → Good l q sh → inside (chip_for l q sh) ≡ true

@@ -36,16 +36,12 @@ use Rattle.chip.specs.declared.place.Place.TheVariants.{Counter as Place-as-Coun
 use Rattle.history.specs.Ledger.{Counter, Entry, Ledger, by_range, cleared, configured, counted, counter_read, csr_in, each, each_from, enabled, mux_of, happened, held, is_set, left, no_counter, packed, read_in, read_low, reset_at, selected, sent_more, slow_in, tells, entry_of, vacant, waited_one, with_errors, with_settings, with_stream, with_ticks, written, written_low}
 use Rattle.history.specs.Stream.{any_held, is_full, total_of, words_of_all}
 use Rattle.history.proofs.Addresses.{by_place, range_beyond, range_counter, range_source, range_trigger, range_vacant}
-use Rattle.history.proofs.Agrees.{Agrees, Good, Kept, chip_for, control_of, kept_guarded, switches_of, switches_with}
+use Rattle.history.proofs.Agrees.{Agrees, Good, Kept, chip_for, control_of, kept_guarded, send_entry, switches_of, switches_with}
 use Rattle.history.proofs.ControlLaws.{configured_control, csr_same}
 use Rattle.history.proofs.CountLaws.{counted_value, each_length, each_same, packed_bit, packed_each, packed_lt, packed_same, selects_number, slow_same, under, value_at_lem, value_of, values_each}
 use Rattle.history.proofs.HeldLaws.{Sixteen}
 use Rattle.history.proofs.HoldsLaws.{Holds, holds_advanced, holds_busy, holds_copied, holds_empty, holds_full, holds_none, holds_some, next_is, many, many_count}
 use Rattle.history.proofs.Triggers.{told, trigger_kept}
-
--- a single send, by whether nothing is left
-abbrev pub send_entry : Ledger → Bool → Entry
-send_entry l none = cond none (tells 5 0 l) (tells 0 (get_or (words_of_all First l.taken) l.sent 0) (sent_more 1 l))
 
 -- a reset record, whatever was before
 pub reset_record : (clock : ℕ) (hundredth : Bool) → with_stamp (clock % 2 ^ 56) (with_choice hundredth fresh) ≡ chip_for (reset_at clock hundredth) empty_queue (replicate 16 0)

@@ -19,15 +19,10 @@ pub overflow_cast-source : goal.overflow_cast-source
 overflow_cast-source c = record { fits = number_read 4 1 c.args.part.now c.number_at-source.result c.number_at-source.ensures }
 
 pub number_at-stamp-requires : goal.number_at-stamp-requires
-number_at-stamp-requires c =
-    let a = c.args in
-    omega (arith, c.stamp_bytes-stamp_size.ensures, stamp_few a.edition)
+number_at-stamp-requires c = let a = c.args in omega (arith, stamp_few a.edition, user_few a.edition)
 
 pub number_at-user-requires : goal.number_at-user-requires
-number_at-user-requires c =
-    let d = c in
-    let a = d.args in
-    omega (arith, d.stamp_bytes-stamp_size.ensures, c.user_bytes.ensures, user_few a.edition)
+number_at-user-requires c = let a = c.args in omega (arith, stamp_few a.edition, user_few a.edition)
 
 pub counters_of-requires : goal.counters_of-requires
 counters_of-requires c =

@@ -15,19 +15,23 @@ use Rattle.samples.proofs.writer.fill.Goals as goal
 size : (w : Widths) (s : Sample) (count : ℕ) → length s.counters ≡ 16 → count ≡ sample_length w (resource s.header) → length (sample_bytes w s) ≡ count
 size w s count sixteen e = bytes_length w s sixteen ∙ sym e
 
+-- where the mark goes
+abbrev marked_place : ℕ → ℕ
+marked_place count = count - 1
+
 pub overflow_add-out : goal.overflow_add-out
 overflow_add-out c =
-    let b = c in
-    let s = b in
-    let a = s.args in
-    let few = put_small (sample_bytes (widths a.edition) a.sample) a.out.now a.count (a.count - 1) (bytes_below (widths a.edition) a.sample) (size (widths a.edition) a.sample a.count (search rules) s.requires.count_value) (omega (arith, s.requires.count_value)) s.requires.count_in_bounds in
-    omega (arith, few, ap (λ (l : List ℕ). get_or l (a.count - 1) 0) b.put_bytes.ensures)
+    let a = c.args in
+    let w = widths a.edition in
+    let bytes = sample_bytes w a.sample in
+    let small = put_small bytes a.out.now a.count (marked_place a.count) (bytes_below w a.sample) (size w a.sample a.count (search rules) c.requires.count_value) (omega (arith, c.requires.count_value)) c.requires.count_in_bounds in
+    omega (arith, small, ap (λ (l : List ℕ). get_or l (marked_place a.count) 0) c.put_bytes.ensures)
 
 pub returns : goal.returns
 unfolding sample_words
 returns c =
-    let b = c in
-    let s = b in
-    let a = s.args in
-    ap (λ (l : List ℕ). set l (a.count - 1) (get_or l (a.count - 1) 0 + 512)) b.put_bytes.ensures
-    ∙ mark_put (sample_bytes (widths a.edition) a.sample) a.out.now a.count (a.count - 1) (size (widths a.edition) a.sample a.count (search rules) s.requires.count_value) (omega (arith, s.requires.count_value)) s.requires.count_in_bounds
+    let a = c.args in
+    let w = widths a.edition in
+    let bytes = sample_bytes w a.sample in
+    ap (λ (l : List ℕ). set l (marked_place a.count) (get_or l (marked_place a.count) 0 + 512)) c.put_bytes.ensures
+    ∙ mark_put bytes a.out.now a.count (marked_place a.count) (size w a.sample a.count (search rules) c.requires.count_value) (omega (arith, c.requires.count_value)) c.requires.count_in_bounds

@@ -1,0 +1,2 @@
+pub mod NibbleLaws
+pub mod SavedLaws
