@@ -1,4 +1,5 @@
--- `chip2_run::main`: each turn leaves the buffers' sizes, of which the room's is its type's, and the turns are counted down.
+-- `chip2_run::main` meets its contract: each turn leaves the buffers' sizes, of which the room's is its
+-- type's, and the turns are counted down. Assumes nothing.
 use Rattle.std.proofs.Common.{◌≡◌, ◌≤◌, length}
 use Rattle.chip2_run.proofs.main.Given as goal
 
