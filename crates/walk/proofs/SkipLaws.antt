@@ -10,7 +10,7 @@ use Rattle.words.specs.Word.{marked, too_large}
 use Rattle.samples.specs.Read.{Found}
 use Rattle.walk.specs.Walk.{after_boundary, is_boundary, skip}
 
--- a boundary: not above 1023, and marked
+-- a boundary by the reader's tests: not above 1023, and marked
 pub boundary_by : (x : ℕ) {large mark : Bool} → too_large x ≡ large → marked x ≡ mark → is_boundary x ≡ (not large && mark)
 boundary_by x {large} {mark} a b = λ i. small large a i && b i
   where
