@@ -8,7 +8,7 @@ ghost use Rattle.bench.specs.Turn.{Turned};
 use chip::chip::Chip;
 use script::block::{Block, run_block};
 use std::io;
-use std::io::Read;
+use std::io::{Read, Write};
 use std::process::ExitCode;
 
 // What stands between two reads: the chip; how many bytes of the input's buffer have come, and of the text's were handed to the write; whether
@@ -198,21 +198,22 @@ fn checked(rt: &HostRuntime, shown: io::Result<()>) -> bool
 
 // Names a call that failed, and the system's reason, on standard error.
 fn fail(rt: &HostRuntime, call: &str, error: io::Error) {
-    let told = match format!(in rt.alloc(); "{error}") {
-        Ok(text) => {
-            let reason = without_number(text.as_str());
-            eprintln!(rt; "bench: {call}: {reason}")
-        }
-        Err(_) => eprintln!(rt; "bench: {call}: {error}"),
+    // Room for any of the system's messages; behind the text stand zeros.
+    let mut space = [0u8; 320];
+    let mut room: &mut [u8] = &mut space;
+    let _ = write!(room, "{error}");
+    let reason = match std::str::from_utf8(&space) {
+        Ok(text) => without_number(text),
+        Err(_) => "",
     };
     // Where standard error fails too, nothing is left to tell it to.
-    let _ = told;
+    let _ = eprintln!(rt; "bench: {call}: {reason}");
 }
 
-// An error's text without the number that std puts behind it: the line is "bench: write: No space left on device".
+// An error's text without the number that std puts behind it, and without zeros: the line is "bench: write: No space left on device".
 fn without_number(text: &str) -> &str {
     match text.split_once(" (os error ") {
         Some((reason, _)) => reason,
-        None => text,
+        None => text.trim_end_matches('\0'),
     }
 }
