@@ -7,7 +7,7 @@
 RECORDS is the size of each file, 100,000,000 unless given. The programs run in turn, five times each, and the least
 time of each counts; those that are named (earlier builds of bench) run with bench and twin, so that before and after
 are of one run. Beside the times: bench's time on half the file and its largest memory, and callgrind's instructions
-for each record where valgrind is there; then the table of kinds. It needs rt, rustc and, on Arm, gcc.
+for each record where valgrind is there; then the table of kinds. It needs rt and rustc.
 
 kinds prints a table alone, as docs/PERFORMANCE.md has it: callgrind's instructions a record for each kind of operation by
 itself, of bench and twin, or of the programs that are named (earlier builds of bench) and the twin. It is repeatable.

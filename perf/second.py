@@ -4,7 +4,7 @@
     perf/second.py [SEED ..]
 
 For each seed, 1000 to 1002 unless given, a file of 20,000 records by compare/generate2.py: callgrind's instructions a
-record of both, and their ratio, which is to be 1.5 at most. It needs rt, rustc, valgrind and, on Arm, gcc.
+record of both, and their ratio, which is to be 1.5 at most. It needs rt, rustc and valgrind.
 """
 
 import os

@@ -212,6 +212,9 @@ def check_edits(page, known, inside):
                 text = text_of(target) if target and os.path.exists(os.path.join(ROOT, target)) else ""
                 if text.count(rest) != 1:
                     faults.append(f"{path}: {text.count(rest)} times in {target}: {rest.strip()}")
+                elif os.path.basename(target) == "Answers.antt" and os.path.dirname(target).count("/") > 2:
+                    # a goal's name follows the code, so the answer's name is changed with it
+                    continue
                 elif target in inside:
                     functions.add(inside[target][text.count("\n", 0, text.index(rest))])
                 else:
@@ -276,7 +279,7 @@ def check_asks(inside):
         for line, here in zip(text_of(path).split("\n"), lines):
             if re.match(r" *pub fn ", line):
                 public.add(here)
-            if here in public and re.search(r"\brequires\s*\{", line):
+            if here in public and re.match(r"\s*requires\b", line):
                 faults.append(f"{path}: the public function {'::'.join(here)} asks something of its caller")
     return faults
 

@@ -45,7 +45,7 @@ module _ (a : ℕ) (c : Chip2) (h : inside c ≡ true) (s : Shaped c) where
       ∙ ap (λ (b : Bool). cond b (cond c.control.readwait (replied Wait (with_control (waited c.control) c)) (replied Busy c)) (given (ones_above 32 v) (with_bank (copied c.bank) c))) (rows_busy c ∙ free)
       ∙ ap (λ (n : ℕ). done (ones_above 32 v) (with_high n (with_bank (copied c.bank) c))) (ones_high v (within_at 4 16 c.bank.values s.values (a - 64)))
 
-  -- "A read_without_copy will not be blocked even when the shadow registers are busy": the shadow, and the rest of the record stays
+  -- "A read-without-copy will not be blocked even when the shadow registers are busy": the shadow, and the rest of the record stays
   pub read_without_copy : shadow_at a ≡ true → step (op_read a) c ≡ record { chip = with_high (2 ^ 32 - 1) c; number = 0; value = get_or c.bank.shadows (a - 80) 0 + (2 ^ 64 - 2 ^ 32) }
   unfolding read read_at
   read_without_copy p =

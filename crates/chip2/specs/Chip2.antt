@@ -183,7 +183,7 @@ read_counter i c =
     (replied Busy c))
     (given (ones_above 32 (get_or c.bank.values i 0)) (with_bank (copied c.bank) c))
 
--- a read of 7 leaves the register (house); "A read_without_copy will not be blocked even when the shadow registers are busy"
+-- a read of 7 leaves the register (house); "A read-without-copy will not be blocked even when the shadow registers are busy"
 unfoldable pub read_at : Place → Chip2 → Told
 read_at Beyond c = replied TooHigh c
 read_at Nowhere c = replied Nothing c
