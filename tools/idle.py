@@ -240,6 +240,8 @@ VERSIONS = {
             ('crates/chip/src/chip.rt', '    held == 0\n', '    held <= 8\n'),
             ('crates/chip/specs/Chip.antt', ', ltb, eqb, get_or, ', ', leb, ltb, eqb, get_or, '),
             ('crates/chip/specs/Chip.antt', 'none_held held = eqb held 0', 'none_held held = leb held 8'),
+            ('crates/chip/proofs/chip/Chip/send_by/Answers.antt', 'use mathlib.Core.Bool.{Bool}', 'use Prim.Native.Nat.{◌<◌}\nuse native.Mathlib.Omega.{arith}\nuse mathlib.Core.Bool.{Bool}\nuse borrow.Author.Tests.{ne_eqb, leb-false}'),
+            ('crates/chip/proofs/chip/Chip/send_by/Answers.antt', 's.bank.shadows s.queue some)', 's.bank.shadows s.queue (let many : 8 < s.queue.held = leb-false s.queue.held 8 some in ne_eqb s.queue.held 0 (λ q. omega arith)))'),
         ], [], [('chip', 'all_rows')]),
     'every_value_0': (
         'the value of every reply 0 is 0, so every word sent and every count of a buffer send is', [
