@@ -282,7 +282,7 @@ pub other_number : (n : ℕ) (rs : List Bool) → marks n ≡ rs → some_true r
 other_number n rs e some m none =
     ne_eqb n m (λ q. false≢true (sym none ∙ ap (λ (k : ℕ). some_true (marks k)) (sym q) ∙ ap some_true e ∙ some))
 
--- 9, which is the bench program's, and document 02, Wish 10's 12, 13 and 14, which are the MultiKron II's, are never given
+-- 9, which is the bench program's, and 12, 13 and 14, which no table of replies has, are never given
 pub no_others : (op : Operation) (c : Chip) → let n = (step op c).number in (eqb n 9 ≡ false) × (eqb n 12 ≡ false) × (eqb n 13 ≡ false) × (eqb n 14 ≡ false)
 unfolding some_true
 no_others op c =

@@ -1,13 +1,15 @@
 // The MultiKron II test program: records from standard input to a fresh chip, a line for each to standard output.
 #![tactic(auto)]
 
-ghost use Rattle.std.specs.Prelude.{◌+◌, ◌*◌, ◌-◌, ◌≤◌, ◌<◌, ◌≡◌, true, false, drop, length, take};
+ghost use Rattle.std.specs.Prelude.{◌+◌, ◌*◌, ◌-◌, ◌≤◌, ◌<◌, ◌≡◌, true, false, drop, is_ok, length, take};
 ghost use Rattle.script2.specs.Run.{input_chip, input_text, record_count};
 ghost use Rattle.chip2_run.specs.Turn.{Turned, due, due_size, whole_size};
 
 use chip2::chip2::Chip2;
-use libc::{STDIN_FILENO, STDOUT_FILENO};
 use script2::block::{Block, run_block};
+use std::io;
+use std::io::Read;
+use std::process::ExitCode;
 
 // What stands between two reads: the chip; how many bytes of the input's buffer have come, and of the text's were handed to the write; whether
 // the input has ended; whether a call has failed.
@@ -35,12 +37,12 @@ struct Shown {
     fine: bool,
 }
 
-fn main() {
+fn main(rt: HostRuntime) -> ExitCode {
     let mut records = [0u8; 8192];
     let mut lines = room();
     let input: &mut [u8] = &mut records;
     let text: &mut [u8] = &mut lines;
-    let shown = checked(io::write_all(STDOUT_FILENO, b"answer value\n"));
+    let shown = checked(&rt, rt.write_all(b"answer value\n"));
     let mut turn = Turn {
         chip: Chip2::fresh(),
         size: 0,
@@ -51,10 +53,14 @@ fn main() {
     // A proved loop has to end, and nothing says that an input does: it counts down from a number that no run uses up.
     let mut turns = u64::MAX;
     while turns > 0 && !turn.ended && !turn.failed {
-        let next = pass(turn, input, text);
+        let next = pass(&rt, turn, input, text);
         turn = next;
         turns -= 1;
     }
+    if turn.failed {
+        return ExitCode::FAILURE;
+    }
+    ExitCode::SUCCESS
 }
 
 // Room for the lines of 512 records, 6,042 bytes each. By itself, so that `main`'s proof takes the length from the type: so many zeros are too
@@ -65,7 +71,7 @@ fn room() -> [u8; 3093504] {
 
 // One turn: takes what there is to read behind the part of a record that waits, answers the records that are whole then, and writes their
 // lines. What a read gives is answered before the next one.
-fn pass(turn: Turn, input: &mut [u8], text: &mut [u8]) -> Turn
+fn pass(rt: &HostRuntime, turn: Turn, input: &mut [u8], text: &mut [u8]) -> Turn
     requires ended_value { turn.ended ≡ false }
     requires size_in_bounds { turn.size ≤ length input.old }
     requires in_bounds { 16 ≤ length input.old }
@@ -73,11 +79,11 @@ fn pass(turn: Turn, input: &mut [u8], text: &mut [u8]) -> Turn
     ensures { Turned turn result input.old input.new text.new }
 {
     let held = keep(input, turn.size);
-    let come = read_behind(input, held);
+    let come = read_behind(rt, input, held);
     let size = come.size;
     let block = answer(turn.chip, input, size, come.ended, text);
     let written = block.written;
-    let shown = show(text, written);
+    let shown = show(rt, text, written);
     let chip = block.chip;
     Turn {
         chip,
@@ -105,34 +111,27 @@ fn keep(input: &mut [u8], size: usize) -> usize
 }
 
 // One read, behind the bytes that are held. A read with no place to read to would look like the end of the input.
-fn read_behind(input: &mut [u8], held: usize) -> Come
+fn read_behind(rt: &HostRuntime, input: &mut [u8], held: usize) -> Come
     requires { held < length input.old }
     ensures held_le_size { held ≤ result.size }
     ensures size_in_bounds { result.size ≤ length input.new }
     ensures input_unchanged { take held input.new ≡ take held input.old }
     ensures size_value { result.ended ≡ true → result.size ≡ held }
 {
-    let got = libc::read(STDIN_FILENO, &mut input[held..]);
-    if got < 0 {
-        os::fail(b"chip2_run: read");
-        return Come {
-            size: held,
-            ended: false,
-            failed: true,
-        };
-    }
-    if got == 0 {
-        return Come {
-            size: held,
-            ended: true,
+    match rt.stdin().read(&mut input[held..]) {
+        Ok(count) => Come {
+            size: held + count,
+            ended: count == 0,
             failed: false,
-        };
-    }
-    let count = io::count(got, &input[held..]);
-    Come {
-        size: held + count,
-        ended: false,
-        failed: false,
+        },
+        Err(error) => {
+            fail(rt, "read", error);
+            Come {
+                size: held,
+                ended: false,
+                failed: true,
+            }
+        }
     }
 }
 
@@ -177,24 +176,48 @@ fn run_all(chip: Chip2, input: &[u8], text: &mut [u8]) -> Block
 }
 
 // Writes the first bytes of a text to standard output.
-fn show(text: &[u8], size: usize) -> Shown
+fn show(rt: &HostRuntime, text: &[u8], size: usize) -> Shown
     requires { size ≤ length text.now }
     ensures { result.size ≡ size }
 {
     let lines = &text[..size];
-    let fine = checked(io::write_all(STDOUT_FILENO, lines));
+    let fine = checked(rt, rt.write_all(lines));
     Shown {
         size: lines.len(),
         fine,
     }
 }
 
-// Names a write that failed.
-fn checked(shown: bool) -> bool
-    ensures { result ≡ shown }
+// Whether a write went well. One that failed is named.
+fn checked(rt: &HostRuntime, shown: io::Result<()>) -> bool
+    ensures { result ≡ is_ok shown }
 {
-    if !shown {
-        os::fail(b"chip2_run: write");
+    match shown {
+        Ok(()) => true,
+        Err(error) => {
+            fail(rt, "write", error);
+            false
+        }
     }
-    shown
+}
+
+// Names a call that failed, and the system's reason, on standard error.
+fn fail(rt: &HostRuntime, call: &str, error: io::Error) {
+    let told = match format!(in rt.alloc(); "{error}") {
+        Ok(text) => {
+            let reason = without_number(text.as_str());
+            eprintln!(rt; "chip2_run: {call}: {reason}")
+        }
+        Err(_) => eprintln!(rt; "chip2_run: {call}: {error}"),
+    };
+    // Where standard error fails too, nothing is left to tell it to.
+    let _ = told;
+}
+
+// An error's text without the number that std puts behind it: the line is "chip2_run: write: No space left on device".
+fn without_number(text: &str) -> &str {
+    match text.split_once(" (os error ") {
+        Some((reason, _)) => reason,
+        None => text,
+    }
 }

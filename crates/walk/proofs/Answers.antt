@@ -5,12 +5,12 @@ use Prim.Native.Nat.{ℕ, suc, ◌+◌, ◌-◌, ◌≤◌, ◌<◌, min}
 use native.Mathlib.Nat.{add_assoc, add-sub_cancel_left, add-sub_of_le, add-zero, zero-add}
 use native.Mathlib.Omega.{arith}
 use mathlib.Core.Path.{◌≡◌, refl, sym, ap, ◌∙◌, subst}
-use mathlib.Core.Bool.{Bool, true, false, cond}
+use mathlib.Core.Bool.{Bool, true, false}
 use mathlib.Core.List.{List, ◌++◌}
 use lib.Dec.{eqb, leb, ltb}
 use lib.ListN.{drop, get_or, length, take, drop_of_length-le, length-drop}
 use lib.Seq.{drop-append-add, drop-drop, get_or-drop, take_all}
-use borrow.Author.Tests.{eqb-false, eqb-true, le-leb, leb-false, leb-true, lt-leb, ltb-false, ltb-true, ne_eqb}
+use borrow.Author.Tests.{eqb-false, eqb-true, leb-false, leb-true, ltb-false, ltb-true, ne_eqb}
 use Rattle.samples.specs.Layout.{Widths, sample_words, zero_sample}
 use Rattle.samples.specs.Read.{Found, fault_at, read_part, verdict_number, wanted}
 use Rattle.samples.proofs.Decided.{place_20, place_fault}
@@ -21,6 +21,7 @@ use Rattle.walk.specs.declared.Step.{Step}
 use Rattle.walk.specs.Pieces.{Boundary, EndsAt, end_answer, gap_answer, moved, sample_answer}
 use Rattle.walk.specs.Walk.{Answer, after_boundary, answer_at, skip, through, told}
 use Rattle.walk.proofs.BoundaryLaws.{after_ends, unmarked}
+use Rattle.walk.proofs.SkipLaws.{skip_gap, skip_none}
 
 moved_moved : (m n : ℕ) (a : Answer) → moved (m + n) a ≡ moved m (moved n a)
 moved_moved m n a = λ i. record { sample = a.sample; next = add_assoc m n a.next i; decided = add_assoc m n a.decided i; skipped = a.skipped; number = a.number }
@@ -49,13 +50,6 @@ kind_of_lem w ws = go (eqb (read_part w ws).number 0) refl (leb 21 (read_part w 
     go true e u q = a_sample (eqb-true (read_part w ws).number 0 e)
     go false e true q = a_gap (leb-true 21 (read_part w ws).number q) (refused_numbers w ws e).1
     go false e false q = the_end (omega (arith, leb-false 21 (read_part w ws).number q, (refused_numbers w ws e).0))
-
-module _ (r : Found) (ws : List ℕ) where
-  skip_gap : 21 ≤ r.number → skip r ws ≡ after_boundary ws r.place
-  skip_gap h = ap (λ (t : Bool). cond t (after_boundary ws r.place) 0) (le-leb 21 r.number h)
-
-  pub skip_none : r.number < 21 → skip r ws ≡ 0
-  skip_none h = ap (λ (t : Bool). cond t (after_boundary ws r.place) 0) (lt-leb 21 r.number h)
 
 module _ (w : Widths) (ws : List ℕ) (place : ℕ) where
   abbrev rest : List ℕ

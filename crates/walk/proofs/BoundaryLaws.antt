@@ -1,32 +1,24 @@
--- Laws of boundaries: a word's test, the place after the first one, and the same by places and numbers alone. By induction on the words that
--- are left. Assumes nothing.
+-- Laws of boundaries: a word by its number alone, the place after the first one, and the same by places and numbers alone. By induction on the
+-- words that are left. Assumes nothing.
 use Prim.Native.Nat.{ℕ, zero, suc, ◌+◌, ◌-◌, ◌/◌, ◌%◌, ◌≤◌, ◌<◌}
 use native.Mathlib.Nat.{add-zero}
 use native.Mathlib.Omega.{arith}
 use mathlib.Core.Path.{◌≡◌, refl, sym, ap, ◌∙◌, subst}
 use mathlib.Core.Logic.{◌↔◌}
-use mathlib.Core.Bool.{Bool, true, false, cond, not, ◌&&◌, false≢true}
+use mathlib.Core.Bool.{Bool, true, false, cond, ◌&&◌, false≢true}
 use mathlib.Core.List.{List, ◌∷◌}
 use lib.Dec.{leb, ltb}
 use lib.ListN.{drop, get_or, length, drop_of_length-le}
 use lib.Seq.{drop-cons}
-use borrow.Author.Tests.{eq-eqb, eqb-true, le-leb, leb-true, lt-leb, ltb-false, ltb-true}
-use Rattle.words.specs.Word.{marked, too_large}
+use borrow.Author.Tests.{eq-eqb, eqb-true, le-leb, leb-true, ltb-false, ltb-true}
+use Rattle.words.specs.Word.{marked}
 use Rattle.words.proofs.WordLaws.{both_left, both_right}
 use Rattle.walk.specs.Pieces.{Boundary, EndsAt}
 use Rattle.walk.specs.Walk.{after_boundary, is_boundary, through}
 
 -- ---- a word
 
--- a boundary by the reader's tests: not above 1023, and marked
-pub boundary_by : (x : ℕ) {large mark : Bool} → too_large x ≡ large → marked x ≡ mark → is_boundary x ≡ (not large && mark)
-boundary_by x {large} {mark} a b = λ i. small large a i && b i
-  where
-    small : (large : Bool) → too_large x ≡ large → leb x 1023 ≡ not large
-    small true e = lt-leb x 1023 (ltb-true 1023 x e)
-    small false e = le-leb x 1023 (ltb-false 1023 x e)
-
--- and by its number alone
+-- a boundary by its number alone
 pub boundary_range : (x : ℕ) → is_boundary x ≡ true ↔ Boundary x
 boundary_range x = (there, back)
   where
@@ -88,24 +80,25 @@ more_ends ws bad n other h = record { after = omega (arith, h.after); within = h
         let same : j ≡ bad = omega (arith, ltb-false bad j q) in
         false≢true (sym other ∙ (boundary_range (get_or ws bad 0)).1 (subst (λ (k : ℕ). Boundary (get_or ws k 0)) same at))
 
--- the definition's place is such a one, with m words after the bad one
-ends : (ws : List ℕ) (m bad : ℕ) → bad + suc m ≡ length ws → EndsAt ws bad (after_boundary ws bad)
-ends ws zero bad e = go (is_boundary (get_or ws bad 0)) refl
-  where
-    alone : EndsAt ws bad (suc bad)
-    alone = one_ends ws bad (omega arith) (λ h. absurd (omega (arith, h)))
-
-    go : (t : Bool) → is_boundary (get_or ws bad 0) ≡ t → EndsAt ws bad (after_boundary ws bad)
-    go true q = subst (EndsAt ws bad) (sym (after_here ws bad (omega arith) q)) alone
-    go false q = subst (EndsAt ws bad) (sym (after_next ws bad (omega arith) q ∙ after_end ws (suc bad) (omega arith))) alone
-ends ws (suc m) bad e = go (is_boundary (get_or ws bad 0)) refl (ends ws m (suc bad) (omega arith))
-  where
-    go : (t : Bool) → is_boundary (get_or ws bad 0) ≡ t → EndsAt ws (suc bad) (after_boundary ws (suc bad)) → EndsAt ws bad (after_boundary ws bad)
-    go true q after = subst (EndsAt ws bad) (sym (after_here ws bad (omega arith) q)) (one_ends ws bad (omega arith) (λ h. (boundary_range (get_or ws bad 0)).0 q))
-    go false q after = more_ends ws bad (after_boundary ws bad) q (subst (EndsAt ws (suc bad)) (sym (after_next ws bad (omega arith) q)) after)
-
+-- the definition's place is such a one
 pub after_ends : (ws : List ℕ) (bad : ℕ) → bad < length ws → EndsAt ws bad (after_boundary ws bad)
-after_ends ws bad there = ends ws (length ws - suc bad) bad (omega arith)
+after_ends ws bad there = ends (length ws - suc bad) bad (omega arith)
+  where
+    -- with m words after the bad one
+    ends : (m bad : ℕ) → bad + suc m ≡ length ws → EndsAt ws bad (after_boundary ws bad)
+    ends zero bad e = go (is_boundary (get_or ws bad 0)) refl
+      where
+        alone : EndsAt ws bad (suc bad)
+        alone = one_ends ws bad (omega arith) (λ h. absurd (omega (arith, h)))
+
+        go : (t : Bool) → is_boundary (get_or ws bad 0) ≡ t → EndsAt ws bad (after_boundary ws bad)
+        go true q = subst (EndsAt ws bad) (sym (after_here ws bad (omega arith) q)) alone
+        go false q = subst (EndsAt ws bad) (sym (after_next ws bad (omega arith) q ∙ after_end ws (suc bad) (omega arith))) alone
+    ends (suc m) bad e = go (is_boundary (get_or ws bad 0)) refl (ends m (suc bad) (omega arith))
+      where
+        go : (t : Bool) → is_boundary (get_or ws bad 0) ≡ t → EndsAt ws (suc bad) (after_boundary ws (suc bad)) → EndsAt ws bad (after_boundary ws bad)
+        go true q after = subst (EndsAt ws bad) (sym (after_here ws bad (omega arith) q)) (one_ends ws bad (omega arith) (λ h. (boundary_range (get_or ws bad 0)).0 q))
+        go false q after = more_ends ws bad (after_boundary ws bad) q (subst (EndsAt ws (suc bad)) (sym (after_next ws bad (omega arith) q)) after)
 
 -- and at one place only
 not_before : (ws : List ℕ) (bad m n : ℕ) → EndsAt ws bad m → EndsAt ws bad n → m < n → ⊥

@@ -24,7 +24,8 @@ use Rattle.samples.proofs.RoundTrip.{sixteen_fit, word_passed}
 use Rattle.samples.proofs.SampleLaws.{sample_length_lem}
 use Rattle.walk.specs.Pieces.{AllFit, Boundary, Damaged, flip, gap_between, laid, sound}
 use Rattle.walk.specs.Walk.{walk}
-use Rattle.walk.proofs.BoundaryLaws.{boundary_by, boundary_range, unmarked}
+use Rattle.walk.proofs.BoundaryLaws.{boundary_range, unmarked}
+use Rattle.walk.proofs.SkipLaws.{boundary_by}
 use Rattle.walk.proofs.Damage.{walk_damage}
 use Rattle.walk.proofs.FlipLaws.{flip_even, flip_mark, flip_small}
 

@@ -4,4 +4,5 @@ pub mod BoundaryLaws
 pub mod Damage
 pub mod FlipLaws
 pub mod Flipped
+pub mod SkipLaws
 pub mod Whole

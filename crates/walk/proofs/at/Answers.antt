@@ -3,14 +3,14 @@ use mathlib.Core.List.{List}
 use Rattle.samples.specs.declared.edition.Edition.{Edition}
 use Prim.Native.Nat.{ℕ, ◌+◌, ◌-◌, ◌≤◌, ◌<◌, min}
 use native.Mathlib.Omega.{arith}
-use mathlib.Core.Path.{◌≡◌, sym, ap, ◌∙◌}
+use mathlib.Core.Path.{◌≡◌, ap, ◌∙◌}
 use lib.ListN.{drop, length, length-drop, take}
 use Rattle.samples.specs.Layout.{widths}
 use Rattle.samples.specs.Read.{Found, found, read_part}
 use Rattle.samples.proofs.Decided.{place_within}
-use Rattle.walk.specs.Walk.{after_boundary, skip}
-use Rattle.walk.proofs.Answers.{answer_is, least_rest, skip_from, skip_none, words_within}
-use Rattle.walk.proofs.at.Goals.{then-verdict_number-gt20, else-verdict_number-gt20}
+use Rattle.walk.specs.Walk.{Answer, after_boundary, answer_at, skip}
+use Rattle.walk.proofs.Answers.{answer_is, least_rest, skip_from, words_within}
+use Rattle.walk.proofs.SkipLaws.{skip_none}
 use Rattle.walk.proofs.at.Goals as goal
 
 module _ (edition : Edition) (ws : List ℕ) (place : ℕ) where
@@ -21,19 +21,17 @@ module _ (edition : Edition) (ws : List ℕ) (place : ℕ) where
   reading : (start : ℕ) (r : Found) → r ≡ read_part (widths edition) (take (length ws - start) (drop start ws)) → start ≡ min place (length ws) → r ≡ there
   reading start r e f = e ∙ ap (read_part (widths edition)) (least_rest ws place start f)
 
-  -- what is skipped, by the branch that the code took
-  skipped_gap : (r : Found) (number after skipped : ℕ) → r ≡ there → number ≡ r.number → 20 < number → after ≡ after_boundary ws (place + r.place) → skipped ≡ after - place → skipped ≡ skip there (drop place ws)
-  skipped_gap r number after skipped is n high e s =
-      s
-      ∙ ap (λ (k : ℕ). k - place) e
-      ∙ skip_from (widths edition) ws place r.place (ap (λ (f : Found). f.place) is) (omega (arith, ap (λ (f : Found). f.number) is))
+  -- what is skipped, by either branch of the code
+  skipped_gap : (r : Found) → r ≡ there → 20 < r.number → after_boundary ws (place + r.place) - place ≡ skip there (drop place ws)
+  skipped_gap r is high = skip_from (widths edition) ws place r.place (ap (λ (f : Found). f.place) is) (omega (arith, ap (λ (f : Found). f.number) is))
 
-  skipped_none : (r : Found) (number skipped : ℕ) → r ≡ there → number ≡ r.number → number ≤ 20 → skipped ≡ 0 → skipped ≡ skip there (drop place ws)
-  skipped_none r number skipped is n low s = s ∙ sym (skip_none there (drop place ws) (omega (arith, ap (λ (f : Found). f.number) is)))
+  skipped_none : (r : Found) → r ≡ there → r.number ≤ 20 → skip there (drop place ws) ≡ 0
+  skipped_none r is low = skip_none there (drop place ws) (omega (arith, ap (λ (f : Found). f.number) is))
 
-  -- the words read or skipped
-  within : (r : Found) (skipped : ℕ) → r ≡ there → skipped ≡ skip there (drop place ws) → r.count + skipped ≤ length ws - place
-  within r skipped is s = omega (arith, ap (λ (f : Found). f.count) is, words_within (widths edition) ws place)
+  -- the next place is the one given, or one within the capture
+  next_within : (answer_at (widths edition) ws place).next ≤ place + (length ws - place)
+  unfolding answer_at
+  next_within = omega (arith, words_within (widths edition) ws place)
 
 pub overflow_add-decided : goal.overflow_add-decided
 overflow_add-decided c =
@@ -43,53 +41,21 @@ overflow_add-decided c =
     let place = ap (λ (f : Found). f.place) is in
     record { fits = omega (arith, place, (place_within (widths a.edition) (drop a.place ws)).0, length-drop a.place ws) }
 
-pub overflow_add-result : goal.overflow_add-result
-overflow_add-result c =
-    let a = c.args in
-    let ws = a.capture.now in
-    let r = found c.read-found.result in
-    let is = reading a.edition ws a.place c.least-start.result r c.read-found.ensures c.least-start.ensures in
-    let n = c.verdict_number in
-    let b = c.if-verdict_number-gt20 in
-    let skips : b.skipped ≡ skip (there a.edition ws a.place) (drop a.place ws) =
-    elim b.branch [
-      | then-verdict_number-gt20 w ↦
-          skipped_gap a.edition ws a.place r n.result w.after_boundary.result b.skipped is n.ensures w.if-verdict_number-gt20.true w.after_boundary.ensures w.skipped-is
-      | else-verdict_number-gt20 w ↦ skipped_none a.edition ws a.place r n.result b.skipped is n.ensures w.if-verdict_number-gt20.false w.skipped-is
-    ]
-    in
-    record { fits = omega (arith, within a.edition ws a.place r b.skipped is skips) }
-
-pub overflow_add-result-2 : goal.overflow_add-result-2
-overflow_add-result-2 c =
-    let a = c.args in
-    let ws = a.capture.now in
-    let r = found c.read-found.result in
-    let is = reading a.edition ws a.place c.least-start.result r c.read-found.ensures c.least-start.ensures in
-    let n = c.verdict_number in
-    let b = c.if-verdict_number-gt20 in
-    let skips : b.skipped ≡ skip (there a.edition ws a.place) (drop a.place ws) =
-    elim b.branch [
-      | then-verdict_number-gt20 w ↦
-          skipped_gap a.edition ws a.place r n.result w.after_boundary.result b.skipped is n.ensures w.if-verdict_number-gt20.true w.after_boundary.ensures w.skipped-is
-      | else-verdict_number-gt20 w ↦ skipped_none a.edition ws a.place r n.result b.skipped is n.ensures w.if-verdict_number-gt20.false w.skipped-is
-    ]
-    in
-    record { fits = omega (arith, within a.edition ws a.place r b.skipped is skips) }
-
 pub returns : goal.returns
 returns c =
     let a = c.args in
     let ws = a.capture.now in
     let r = found c.read-found.result in
     let is = reading a.edition ws a.place c.least-start.result r c.read-found.ensures c.least-start.ensures in
-    let n = c.verdict_number in
-    let b = c.if-verdict_number-gt20 in
-    let skips : b.skipped ≡ skip (there a.edition ws a.place) (drop a.place ws) =
-    elim b.branch [
-      | then-verdict_number-gt20 w ↦
-          skipped_gap a.edition ws a.place r n.result w.after_boundary.result b.skipped is n.ensures w.if-verdict_number-gt20.true w.after_boundary.ensures w.skipped-is
-      | else-verdict_number-gt20 w ↦ skipped_none a.edition ws a.place r n.result b.skipped is n.ensures w.if-verdict_number-gt20.false w.skipped-is
-    ]
-    in
-    answer_is (widths a.edition) ws a.place r b.skipped is skips
+    answer_is (widths a.edition) ws a.place r _ is (grind (arith, skipped_gap a.edition ws a.place r is, skipped_none a.edition ws a.place r is))
+
+-- both sums are within the next place
+pub overflow_add-result : goal.overflow_add-result
+overflow_add-result c =
+    let a = c.args in
+    record { fits = omega (arith, ap (λ (s : Answer). s.next) (returns c), next_within a.edition a.capture.now a.place) }
+
+pub overflow_add-result-2 : goal.overflow_add-result-2
+overflow_add-result-2 c =
+    let a = c.args in
+    record { fits = omega (arith, ap (λ (s : Answer). s.next) (returns c), next_within a.edition a.capture.now a.place) }

@@ -1,6 +1,6 @@
 -- `walk::is_boundary` meets its contract: the definition's two tests are the reader's. Assumes nothing.
 use mathlib.Core.Path.{refl, sym, ◌∙◌}
-use Rattle.walk.proofs.BoundaryLaws.{boundary_by}
+use Rattle.walk.proofs.SkipLaws.{boundary_by}
 use Rattle.walk.proofs.is_boundary.Goals as goal
 
 pub returns-then-too_large : goal.returns-then-too_large

@@ -1,4 +1,4 @@
--- What holds at each turn of the loop.
+-- `samples_test::sending::one_by_one` is safe and ends: it counts to the buffer's length, which stays. Assumes nothing.
 use Prim.Native.Nat.{◌≤◌, ◌-◌}
 use mathlib.Core.Path.{◌≡◌}
 use lib.ListN.{length}

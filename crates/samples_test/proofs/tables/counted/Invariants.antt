@@ -1,4 +1,4 @@
--- What holds at each turn of the loop.
+-- `samples_test::tables::counted` is safe and ends: it goes up to its end, and counts at most each number on the way. Assumes nothing.
 use Prim.Native.Nat.{◌≤◌, ◌-◌}
 use Rattle.samples_test.proofs.tables.counted.Given as goal
 

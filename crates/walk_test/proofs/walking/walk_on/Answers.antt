@@ -1,6 +1,5 @@
 -- `walk_test::walking::walk_on` is safe and ends: with every answer but 20 the walk moves on, within the capture. Assumes nothing.
 use borrow.Author.Tests.{ne_eqb}
-use Prim.Native.Nat.{◌-◌}
 use native.Mathlib.Omega.{arith}
 use mathlib.Core.Path.{ap, ◌∙◌}
 use Rattle.samples.specs.Layout.{widths}

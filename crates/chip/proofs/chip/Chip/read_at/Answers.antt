@@ -1,4 +1,4 @@
--- `chip::chip::Chip::read_at_lem` meets its contract: each arm is one case of the map. Assumes nothing.
+-- `chip::chip::Chip::read_at` meets its contract: each arm is one case of the map. Assumes nothing.
 use mathlib.Core.Path.{sym, ap, ap₂, ◌∙◌}
 use Prim.Native.Nat.{ℕ}
 use mathlib.Core.Bool.{Bool}

@@ -1,4 +1,4 @@
--- `chip::chip::Chip::send_by_lem` meets its contract: 5 with nothing held, else the next word. Assumes nothing.
+-- `chip::chip::Chip::send_by` meets its contract: 5 with nothing held, else the next word. Assumes nothing.
 use mathlib.Core.Path.{sym, ap, ◌∙◌}
 use mathlib.Core.Bool.{Bool}
 use Rattle.samples.specs.Layout.{widths}

@@ -1,4 +1,4 @@
--- `chip2::chip2::Chip2::read_at_lem` meets its contract: each arm is one case of the map. Assumes nothing.
+-- `chip2::chip2::Chip2::read_at` meets its contract: each arm is one case of the map. Assumes nothing.
 use Prim.Native.Nat.{ℕ}
 use mathlib.Core.Path.{sym, ap, ◌∙◌}
 use Rattle.chip2.specs.Chip2.{given, ones_above, read_at}
