@@ -1,10 +1,11 @@
 #!/usr/bin/env python3
-"""idle.py [NAME ..]: idle versions and easy errors, document 01's and some of ours, tried as whole chips.
+"""idle.py [--jobs N] [NAME ..]: idle versions and easy errors, document 01's and some of ours, tried as whole chips.
 
 A must-fail edit changes one crate. Here an idle version is made in a copy of the repository: code and definition are changed alike, and the
 proofs that name the changed number, test or order with them, so that the crates below still prove and only the statement that carries the
 weight is left to refuse it. For each version it says which crates are proved and where the first error of the others stands, and it ends
-with exit code 1 if that is not what the table below expects. It takes about a minute for each version and is no part of the gate.
+with exit code 1 if that is not what the table below expects. It takes about a minute for each version, N at a time (as many as there are
+processors), and is no part of the gate.
 """
 import concurrent.futures
 import os
@@ -340,15 +341,17 @@ VERSIONS = {
 
 def change(folder, changes):
     """Makes the changes of a version, and gives the files as they were."""
-    before = {}
+    before, after = {}, {}
     for name, old, new, *times in changes:
         path = os.path.join(folder, name)
-        with open(path, encoding='utf-8') as file:
-            text = file.read()
-        if [text.count(old)] != (times or [1]):
-            sys.exit('idle: %s has this text %d times: %s' % (name, text.count(old), old))
-        before.setdefault(path, text)
-        write(path, text.replace(old, new))
+        if path not in before:
+            with open(path, encoding='utf-8') as file:
+                before[path] = after[path] = file.read()
+        if [after[path].count(old)] != (times or [1]):
+            sys.exit('idle: %s has this text %d times: %s' % (name, after[path].count(old), old))
+        after[path] = after[path].replace(old, new)
+    for path, text in after.items():
+        write(path, text)
     return before
 
 
@@ -370,17 +373,19 @@ def check(folder, crate):
 def tried(name, folders):
     """What a version's crates gave, as lines, and how many are not as the table says."""
     says, changes, proved, refused = VERSIONS[name]
-    lines, bad, folder = ['%s: %s' % (name, says)], 0, folders.get()
-    before = change(folder, changes)
-    for crate, law in [(crate, None) for crate in proved] + refused:
-        found = check(folder, crate)
-        as_expected = found == law
-        bad += not as_expected
-        lines.append('  %s: %s%s' % (crate, 'proved' if found is None else 'refused at `%s`' % found,
-                                     '' if as_expected else ', NOT AS EXPECTED (%s)' % (law or 'proved')))
-    for path, text in before.items():
-        write(path, text)
-    folders.put(folder)
+    lines, bad, before, folder = ['%s: %s' % (name, says)], 0, {}, folders.get()
+    try:
+        before = change(folder, changes)
+        for crate, law in [(crate, None) for crate in proved] + refused:
+            found = check(folder, crate)
+            as_expected = found == law
+            bad += not as_expected
+            lines.append('  %s: %s%s' % (crate, 'proved' if found is None else 'refused at `%s`' % found,
+                                         '' if as_expected else ', NOT AS EXPECTED (%s)' % (law or 'proved')))
+    finally:
+        for path, text in before.items():
+            write(path, text)
+        folders.put(folder)
     return lines, bad
 
 
