@@ -1,13 +1,15 @@
 #!/usr/bin/env python3
-"""idle.py [NAME ..]: idle versions and easy errors, document 01's and some of ours, tried as whole chips.
+"""idle.py [--jobs N] [NAME ..]: idle versions and easy errors, document 01's and some of ours, tried as whole chips.
 
 A must-fail edit changes one crate. Here an idle version is made in a copy of the repository: code and definition are changed alike, and the
 proofs that name the changed number, test or order with them, so that the crates below still prove and only the statement that carries the
 weight is left to refuse it. For each version it says which crates are proved and where the first error of the others stands, and it ends
-with exit code 1 if that is not what the table below expects. It takes about a minute for each version and is no part of the gate.
+with exit code 1 if that is not what the table below expects. It takes about a minute for each version, N at a time (as many as there are
+processors), and is no part of the gate.
 """
 import concurrent.futures
 import os
+import queue
 import re
 import shutil
 import subprocess
@@ -17,31 +19,29 @@ import tempfile
 ROOT = os.path.dirname(os.path.dirname(os.path.abspath(__file__)))
 
 # a Resource sample's counters as they are, not as they were copied at its trigger
-SENT = (' .bank .shadows', ' .bank .values')
+SENT = ('.bank.shadows', '.bank.values')
 
 # where a sample's counters go last first: how they are read, what the changed proofs use, and the laws of `reverse` that were missing
-READ_LAST_FIRST = ('gather counterWidths', 'countersIn')
-USES = ('use Rattle·samples·specs.specs.Layout.{', 'use mathlib.Core.List.{reverse, reverse-reverse}\nuse lib.ListN.{length-reverse}\nuse Rattle·samples·specs.specs.Read.{countersIn}\nuse Rattle·samples·proofs.proofs.Gather.{reverse-at, within-reverse}\nuse Rattle·samples·specs.specs.Layout.{')
+READ_LAST_FIRST = ('gather counter_widths', 'counters_in')
+USES = ('use Rattle.samples.specs.Layout.{', 'use mathlib.Core.List.{reverse}\nuse Rattle.std.proofs.lemmas.List.{reverse-reverse, length-reverse}\nuse Rattle.samples.specs.Read.{counters_in}\nuse Rattle.samples.proofs.Gather.{reverse_at, within_reverse}\nuse Rattle.samples.specs.Layout.{')
 REVERSE_LAWS = '''
-pub reverse-at : (xs : List ℕ) (i j : ℕ) → suc (i + j) ≡ length xs → getD (reverse xs) j 0 ≡ getD xs i 0
-reverse-at [] i j e = absurd (omega arith)
-reverse-at (x ∷ xs) zero j e = rw (reverse-cons x xs) (getD-at (reverse xs) x [] 0 j (length-reverse xs ∙ omega arith))
-reverse-at (x ∷ xs) (suc i) j e = rw (reverse-cons x xs) (List·getD-append (reverse xs) (x ∷ []) 0 j (rw length-reverse (omega arith)) ∙ reverse-at xs i j (omega arith))
+pub reverse_at : (xs : List ℕ) (i j : ℕ) → suc (i + j) ≡ length xs → get_or (reverse xs) j 0 ≡ get_or xs i 0
+reverse_at xs i j e = let there : length xs - 1 - j ≡ i = omega arith in get_or-reverse xs j 0 (omega arith) ∙ ap (λ (k : ℕ). get_or xs k 0) there
 
-pub within-reverse : (ns ms xs ys : List ℕ) → within ns xs ≡ true → within (reverseAux ns ms) (reverseAux xs ys) ≡ within ms ys
+pub within_reverse : (ns ms xs ys : List ℕ) → within ns xs ≡ true → within (reverse_aux ns ms) (reverse_aux xs ys) ≡ within ms ys
 unfolding within
-within-reverse [] ms [] ys e = refl
-within-reverse [] ms (x ∷ xs) ys e = absurd (false≢true e)
-within-reverse (n ∷ ns) ms [] ys e = absurd (false≢true e)
-within-reverse (n ∷ ns) ms (x ∷ xs) ys e = within-reverse ns (n ∷ ms) xs (x ∷ ys) (both-right (ltb x (256 ^ n)) (within ns xs) e) ∙ ap (λ (b : Bool). b && within ms ys) (both-left (ltb x (256 ^ n)) (within ns xs) e)
+within_reverse [] ms [] ys e = refl
+within_reverse [] ms (x ∷ xs) ys e = absurd (false≢true e)
+within_reverse (n ∷ ns) ms [] ys e = absurd (false≢true e)
+within_reverse (n ∷ ns) ms (x ∷ xs) ys e = within_reverse ns (n ∷ ms) xs (x ∷ ys) (both_right (ltb x (256 ^ n)) (within ns xs) e) ∙ ap (λ (b : Bool). b && within ms ys) (both_left (ltb x (256 ^ n)) (within ns xs) e)
 '''
 
 
 # bits 0 to 8 with an even number of ones: the table (the odd one is left over), and the proof that no word is 0, which byte 0's then is
 EVEN_TABLE = 'const PARITY: [u8; 256] = [%s]; const ODD: [u8; 256] = [' % ', '.join(str(bin(byte).count('1') % 2) for byte in range(256))
-WORD_SOME = '''word-some last b e =
+WORD_SOME = '''word_some last b e =
     let none : b ≡ 0 = omega arith in
-    let odd : parityOf b ≡ 1 = ap parityOf none ∙ zero-parity in
+    let odd : parity_of b ≡ 1 = ap parity_of none ∙ zero_parity in
     omega arith
 '''
 
@@ -68,84 +68,87 @@ VERSIONS = {
     'room_for_seven': (
         'the queue is full with seven samples', [
             ('crates/queue/src/queue.rt', '8 <= self.held', '7 <= self.held'),
-            ('crates/queue/specs/Queue.antt', 'full q = leb 8 (q .held)', 'full q = leb 7 (q .held)'),
-        ], ['queue'], [('chip', 'rows-room')]),
+            ('crates/queue/specs/Queue.antt', 'full q = leb 8 q.held', 'full q = leb 7 q.held'),
+        ], ['queue'], [('chip', 'rows_room')]),
     'loses_every_trace_trigger': (
         'every Trace trigger lacks room', [
             ('crates/chip/src/chip.rt', 'if resource { self.queue.busy() } else { false }', 'if resource { self.queue.busy() } else { true }'),
             ('crates/chip/specs/Chip.antt', 'blocked resource q = resource && busy q', 'blocked resource q = cond resource (busy q) true'),
-            ('crates/chip/proofs/chip/Chip/blocked/Proof.antt', 'use mathlib.Core.Bool.{Bool, _&&_}', 'use mathlib.Core.Bool.{Bool, true, cond}'),
-            ('crates/chip/proofs/chip/Chip/blocked/Proof.antt', 'b && busy (a .self .queue)', 'cond b (busy (a .self .queue)) true'),
-        ], [], [('chip', 'rows-room')]),
+            ('crates/chip/specs/Chip.antt', 'Bool, false, cond, ', 'Bool, true, false, cond, '),
+            ('crates/chip/proofs/chip/Chip/blocked/Answers.antt', 'use mathlib.Core.Bool.{Bool, ◌&&◌}', 'use mathlib.Core.Bool.{Bool, true, cond}'),
+            ('crates/chip/proofs/chip/Chip/blocked/Answers.antt', 'b && busy a.self.queue', 'cond b (busy a.self.queue) true'),
+        ], [], [('chip', 'rows_room')]),
     'refuses_every_trigger': (
         'no processor lines are one line, so every trigger is answered with 4', [
             ('crates/chip/src/chip.rt', 'u8::count_ones(lines) == 1', 'u8::count_ones(lines) == 9'),
-            ('crates/chip/specs/Chip.antt', 'oneLine lines = eqb (onesIn 8 lines) 1', 'oneLine lines = eqb (onesIn 8 lines) 9'),
-            ('crates/chip/proofs/chip/Chip/trigger/Proof.antt', '(sym (eq-eqb (onesIn 8 (a .lines)) 1', '(sym (eq-eqb (onesIn 8 (a .lines)) 9'),
-            ('crates/chip/proofs/chip/Chip/trigger/Proof.antt', '(sym (ne-eqb (onesIn 8 (a .lines)) 1', '(sym (ne-eqb (onesIn 8 (a .lines)) 9'),
-            ('crates/chip/proofs/chip/Chip/trigger/Proof.antt', '(eq-eqb (onesIn 8 lines) 1', '(eq-eqb (onesIn 8 lines) 9'),
-            ('crates/chip/proofs/LineLaws.antt', 'onesIn 8 lines ≡ 1 = eqb-true (onesIn 8 lines) 1 e', 'onesIn 8 lines ≡ 9 = eqb-true (onesIn 8 lines) 9 e'),
-            ('crates/chip/proofs/LineLaws.antt', 'ap (λ (n : ℕ). eqb n 1) (sym (ones-low 8 lines))', 'ap (λ (n : ℕ). eqb n 9) (sym (ones-low 8 lines))'),
-        ], [], [('chip', 'one-line')]),
+            ('crates/chip/specs/Chip.antt', 'one_line lines = eqb (ones_in 8 lines) 1', 'one_line lines = eqb (ones_in 8 lines) 9'),
+            ('crates/chip/proofs/chip/Chip/trigger/Answers.antt', '(sym (eq-eqb (ones_in 8 a.lines) 1', '(sym (eq-eqb (ones_in 8 a.lines) 9'),
+            ('crates/chip/proofs/chip/Chip/trigger/Answers.antt', '(sym (ne_eqb (ones_in 8 a.lines) 1', '(sym (ne_eqb (ones_in 8 a.lines) 9'),
+            ('crates/chip/proofs/chip/Chip/trigger/Answers.antt', '(eq-eqb (ones_in 8 lines) 1', '(eq-eqb (ones_in 8 lines) 9'),
+            ('crates/chip/proofs/chip/Chip/trigger/Answers.antt', 'lines-eq1', 'lines-eq9', 6),
+            ('crates/chip/proofs/LineLaws.antt', 'ones_in 8 lines ≡ 1 = eqb-true (ones_in 8 lines) 1 e', 'ones_in 8 lines ≡ 9 = eqb-true (ones_in 8 lines) 9 e'),
+            ('crates/chip/proofs/LineLaws.antt', 'ap (λ (n : ℕ). eqb n 1) (sym (ones_low 8 lines))', 'ap (λ (n : ℕ). eqb n 9) (sym (ones_low 8 lines))'),
+        ], [], [('chip', 'one_line_lem')]),
     'first_word_again': (
         'every send gives the first word of the first sample', [
             ('crates/queue/src/queue.rt', '        let sent = self.sent;\n        if sent < count {\n            return word_by(', '        let sent = self.sent % 1;\n        if sent < count {\n            return word_by('),
-            ('crates/queue/specs/Queue.antt', '(firstHeld q))) (q .sent) 0', '(firstHeld q))) (q .sent % 1) 0'),
-            ('crates/queue/specs/Queue.antt', 'use Prim.Native.Nat.{ℕ, zero, suc, _+_, _-_}', 'use Prim.Native.Nat.{ℕ, zero, suc, _+_, _-_, _%_}'),
-            ('crates/queue/specs/Table.antt', '(firstHeld q)))) (q .sent) 0', '(firstHeld q)))) (q .sent % 1) 0'),
-            ('crates/queue/specs/Table.antt', 'use Prim.Native.Nat.{ℕ}', 'use Prim.Native.Nat.{ℕ, _%_}'),
-            ('crates/queue/proofs/TableLaws.antt', 'getD ws (q .sent) 0', 'getD ws (q .sent % 1) 0'),
-            ('crates/queue/proofs/TableLaws.antt', 'first) (q .sent)', 'first) (q .sent % 1)', 2),
-            ('crates/queue/proofs/QueueLaws.antt', 'use Prim.Native.Nat.{ℕ, zero, suc, _≤_, _<_, min}', 'use Prim.Native.Nat.{ℕ, zero, suc, _%_, _≤_, _<_, min}\nuse native.Mathlib.Omega.{arith}'),
-            ('crates/queue/proofs/QueueLaws.antt', 'sixteen) (q .sent) h) ∙ e)', 'sixteen) (q .sent % 1) (omega arith)) ∙ e)'),
-            ('crates/queue/proofs/queue/Queue/next_word/Proof.antt', 'use native.Mathlib.Omega.{arith}', 'use Prim.Native.Nat.{_%_}\nuse native.Mathlib.Omega.{arith}'),
-            ('crates/queue/proofs/queue/Queue/next_word/Proof.antt', '(add-one (a .t1 .sent))', '(add-one (a .t1 .sent % 1))'),
-            ('crates/queue/proofs/queue/Queue/next_word/Proof.antt', '(wordBy t) (a .t1 .sent) (omega arith))', '(wordBy t) (a .t1 .sent % 1) (omega arith))'),
-            ('crates/queue/proofs/queue/Queue/next_word/Proof.antt', '{n = a .t1 .sent}', '{n = a .t1 .sent % 1}'),
-        ], [], [('queue', 'words-first')]),
+            ('crates/queue/specs/Queue.antt', '(first_held q))) q.sent 0', '(first_held q))) (q.sent % 1) 0'),
+            ('crates/queue/specs/Queue.antt', 'Prelude.{ℕ, zero, suc, ◌+◌, ◌-◌, ', 'Prelude.{ℕ, zero, suc, ◌+◌, ◌-◌, ◌%◌, '),
+            ('crates/queue/specs/Table.antt', '(first_held q)))) q.sent 0', '(first_held q)))) (q.sent % 1) 0'),
+            ('crates/queue/specs/Table.antt', 'Prelude.{ℕ, cond, ', 'Prelude.{ℕ, ◌%◌, cond, '),
+            ('crates/queue/proofs/TableLaws.antt', 'get_or ws q.sent 0', 'get_or ws (q.sent % 1) 0'),
+            ('crates/queue/proofs/TableLaws.antt', 'first) q.sent', 'first) (q.sent % 1)', 2),
+            ('crates/queue/proofs/QueueLaws.antt', 'use Prim.Native.Nat.{ℕ, zero, suc, ◌≤◌, ◌<◌, min}', 'use Prim.Native.Nat.{ℕ, zero, suc, ◌%◌, ◌≤◌, ◌<◌, min}\nuse native.Mathlib.Omega.{arith}'),
+            ('crates/queue/proofs/QueueLaws.antt', 'sixteen) q.sent h) ∙ e)', 'sixteen) (q.sent % 1) (omega arith)) ∙ e)'),
+            ('crates/queue/proofs/queue/Queue/next_word/Answers.antt', 'use native.Mathlib.Omega.{arith}', 'use Prim.Native.Nat.{◌%◌}\nuse native.Mathlib.Omega.{arith}'),
+            ('crates/queue/proofs/queue/Queue/next_word/Answers.antt', '(add-one a.self.sent)', '(add-one (a.self.sent % 1))'),
+            ('crates/queue/proofs/queue/Queue/next_word/Answers.antt', '(word_by t) a.self.sent (omega arith))', '(word_by t) (a.self.sent % 1) (omega arith))'),
+            ('crates/queue/proofs/queue/Queue/next_word/Answers.antt', '{n = a.self.sent}', '{n = a.self.sent % 1}'),
+        ], [], [('queue', 'words_first')]),
     'counters_taken_when_sent': (
         "a Resource sample's counters are those of the moment at which its words are sent", [
             ('crates/chip/src/chip.rt', 'let shadows = self.bank.shadows;', 'let shadows = self.bank.values;', 2),
             ('crates/chip/specs/Chip.antt', *SENT, 3),
             ('crates/chip/specs/Table.antt', *SENT),
-            ('crates/chip/specs/Sent.antt', 'heldSample (c .bank .shadows)', 'heldSample (c .bank .values)'),
+            ('crates/chip/specs/Sent.antt', 'held_sample c.bank.shadows', 'held_sample c.bank.values'),
             ('crates/chip/proofs/Refusals.antt', *SENT),
             ('crates/chip/proofs/TableLaws.antt', *SENT, 5),
-            ('crates/chip/proofs/chip/Chip/send_by/Proof.antt', *SENT),
-            ('crates/chip/proofs/chip/Chip/send_into/Proof.antt', *SENT, 2),
+            ('crates/chip/proofs/chip/Chip/send_by/Answers.antt', *SENT),
+            ('crates/chip/proofs/chip/Chip/send_into/Answers.antt', *SENT, 2),
             ('crates/chip/proofs/Sends.antt', *SENT, 33),
             ('crates/chip/proofs/Bounds.antt', *SENT, 2),
-            ('crates/chip/proofs/Words.antt', 'within-length counterWidths (c .bank .shadows) (s .shadows)', 'within-length counterWidths (c .bank .values) (s .values)'),
-            ('crates/chip/proofs/Words.antt', '(c .bank .shadows)', '(c .bank .values)', 6),
-        ], ['chip', 'marked'], [('history', 'send-kept')]),
+            ('crates/chip/proofs/Words.antt', 'within_length counter_widths c.bank.shadows s.shadows', 'within_length counter_widths c.bank.values s.values'),
+            ('crates/chip/proofs/Words.antt', 'c.bank.shadows', 'c.bank.values', 6),
+        ], ['chip', 'marked'], [('history', 'send_kept')]),
     'first_sample_only': (
         'the first trigger is honoured, the later ones are only answered "taken"', [
             ('crates/queue/src/queue.rt', 'if held < 8 {', 'if held < 1 {'),
-            ('crates/queue/specs/Queue.antt', 'pushed h q = cond (ltb (q .held) 8)', 'pushed h q = cond (ltb (q .held) 1)'),
-            ('crates/queue/proofs/queue/Queue/pushed/Proof.antt', 'rw (lt-ltb (c .before .before .before .args .self .held) 8', 'rw (lt-ltb (c .before .before .before .args .self .held) 1'),
-            ('crates/queue/proofs/queue/Queue/pushed/Proof.antt', 'rw (le-ltb (c .before .args .self .held) 8', 'rw (le-ltb (c .before .args .self .held) 1'),
-            ('crates/queue/proofs/BoundLaws.antt', 'push-bounds h q e = go (ltb (q .held) 8) refl', 'push-bounds h q e = go (ltb (q .held) 1) refl'),
-            ('crates/queue/proofs/BoundLaws.antt', 'go : (b : Bool) → ltb (q .held) 8 ≡ b → insideQueue w (cond b more q)', 'go : (b : Bool) → ltb (q .held) 1 ≡ b → insideQueue w (cond b more q)'),
-            ('crates/queue/proofs/BoundLaws.antt', 'few = omega (arith, ltb-true (q .held) 8 t)', 'few = omega (arith, ltb-true (q .held) 1 t)'),
-            ('crates/queue/proofs/BoundLaws.antt', 'push-places h q e = go (ltb (q .held) 8)', 'push-places h q e = go (ltb (q .held) 1)'),
-            ('crates/history/proofs/HoldsLaws.antt', '(sym (lt-ltb (q .held) 8 room))', '(sym (lt-ltb (q .held) 1 room))'),
-        ], ['queue', 'chip'], [('history', 'holds-pushed'), ('marked', 'marked-examples')]),
+            ('crates/queue/specs/Queue.antt', 'pushed h q = cond (ltb q.held 8)', 'pushed h q = cond (ltb q.held 1)'),
+            ('crates/queue/proofs/queue/Queue/pushed/Answers.antt', 'rw (lt-ltb c.args.self.held 8', 'rw (lt-ltb c.args.self.held 1'),
+            ('crates/queue/proofs/queue/Queue/pushed/Answers.antt', 'rw (le-ltb c.args.self.held 8', 'rw (le-ltb c.args.self.held 1'),
+            ('crates/queue/proofs/queue/Queue/pushed/Answers.antt', 'held-lt8', 'held-lt1', 6),
+            ('crates/queue/proofs/BoundLaws.antt', 'push_bounds h q e = go (ltb q.held 8) refl', 'push_bounds h q e = go (ltb q.held 1) refl'),
+            ('crates/queue/proofs/BoundLaws.antt', 'go : (b : Bool) → ltb q.held 8 ≡ b → inside_queue w (cond b more q)', 'go : (b : Bool) → ltb q.held 1 ≡ b → inside_queue w (cond b more q)'),
+            ('crates/queue/proofs/BoundLaws.antt', 'few = omega (arith, ltb-true q.held 8 t)', 'few = omega (arith, ltb-true q.held 1 t)'),
+            ('crates/queue/proofs/BoundLaws.antt', 'push_places h q e = go (ltb q.held 8)', 'push_places h q e = go (ltb q.held 1)'),
+            ('crates/history/proofs/HoldsLaws.antt', '(sym (lt-ltb q.held 8 room))', '(sym (lt-ltb q.held 1 room))'),
+        ], ['queue', 'chip'], [('history', 'holds_pushed'), ('marked', 'marked_examples')]),
     'loses_every_trigger': (
         'every trigger lacks room, Resource triggers too', [
             ('crates/queue/src/queue.rt', '8 <= self.held', '0 <= self.held'),
-            ('crates/queue/specs/Queue.antt', 'full q = leb 8 (q .held)', 'full q = leb 0 (q .held)'),
-        ], ['queue'], [('chip', 'rows-room')]),
+            ('crates/queue/specs/Queue.antt', 'full q = leb 8 q.held', 'full q = leb 0 q.held'),
+        ], ['queue'], [('chip', 'rows_room')]),
     'overruns_counted_twice': (
         'a lost trigger adds two to the Overrun Counter', [
             ('crates/control/src/control.rt', 'wrapping_add_u32(self.overrun, 1)', 'wrapping_add_u32(self.overrun, 2)'),
-            ('crates/control/specs/Control.antt', '(grown (c .overrun) 1)', '(grown (c .overrun) 2)'),
-        ], ['control', 'chip', 'marked'], [('history', 'lost-control')]),
+            ('crates/control/specs/Control.antt', '(grown c.overrun 1)', '(grown c.overrun 2)'),
+        ], ['control', 'chip', 'marked'], [('history', 'lost_control')]),
     'buffer_count_invented': (
         'a buffer send writes its words and returns the Timestamp for their number', [
             ('crates/chip/src/chip.rt', 'return self.done(sent.count);', 'return self.done(self.stamp);'),
-            ('crates/chip/specs/Chip.antt', 'done (s .count) (withQueue (s .queue) c)', 'done (c .stamp) (withQueue (s .queue) c)'),
-            ('crates/chip/proofs/chip/Chip/send_into/Proof.antt', 'done (r .count) (withQueue (r .queue) s)', 'done (s .stamp) (withQueue (r .queue) s)'),
-        ], [], [('chip', 'fill-answer')]),
+            ('crates/chip/specs/Chip.antt', 'done s.count (with_queue s.queue c)', 'done c.stamp (with_queue s.queue c)'),
+            ('crates/chip/proofs/chip/Chip/send_into/Answers.antt', 'done r.count (with_queue r.queue s)', 'done s.stamp (with_queue r.queue s)'),
+        ], [], [('chip', 'fill_answer')]),
     'same_word_again': (
         'every field of a sample is 0, so that all words are the same but for the end mark', [
             ('crates/chip/src/chip.rt', 'user: bits % TWO_48,', 'user: bits % 1,'),
@@ -153,21 +156,21 @@ VERSIONS = {
             ('crates/chip/src/chip.rt', 'source: self.source(line as usize),', 'source: self.source(line as usize) % 1,'),
             ('crates/control/src/control.rt', 'line as u32 + 8', 'line as u32 % 1 + 8'),
             ('crates/chip/specs/Chip.antt', 'user = bits % 2 ^ 48;', 'user = bits % 1;'),
-            ('crates/chip/specs/Chip.antt', 'stamp = c .stamp % 2 ^ 40;', 'stamp = c .stamp % 1;'),
-            ('crates/chip/specs/Chip.antt', 'source = getD (c .sources) line 0;', 'source = getD (c .sources) line 0 % 1;'),
-            ('crates/control/specs/Control.antt', 'headerOf line resource lost = line + 8', 'headerOf line resource lost = line % 1 + 8'),
-            ('crates/chip/proofs/chip/Chip/sample_now/Proof.antt', 'user = a .bits % 2 ^ 48; stamp = a .self .stamp % 2 ^ 40; source = c .before .source .ensures i;', 'user = a .bits % 1; stamp = a .self .stamp % 1; source = c .before .source .ensures i % 1;'),
-            ('crates/chip/proofs/Words.antt', '(within-at 4 8 (c .sources) (s .sources) line) (omega arith)', '(omega arith) (omega arith)'),
-        ], ['control', 'chip'], [('history', 'header-same'), ('marked', 'marked-examples')]),
+            ('crates/chip/specs/Chip.antt', 'stamp = c.stamp % 2 ^ 40;', 'stamp = c.stamp % 1;'),
+            ('crates/chip/specs/Chip.antt', 'source = get_or c.sources line 0;', 'source = get_or c.sources line 0 % 1;'),
+            ('crates/control/specs/Control.antt', 'header_of line resource lost = line + 8', 'header_of line resource lost = line % 1 + 8'),
+            ('crates/chip/proofs/chip/Chip/sample_now/Answers.antt', 'user = a.bits % 2 ^ 48; stamp = a.self.stamp % 2 ^ 40; source = c.source.ensures i;', 'user = a.bits % 1; stamp = a.self.stamp % 1; source = c.source.ensures i % 1;'),
+            ('crates/chip/proofs/Words.antt', '(within_at 4 8 c.sources s.sources line) (omega arith)', '(omega arith) (omega arith)'),
+        ], ['control', 'chip'], [('history', 'header_same'), ('marked', 'marked_examples')]),
     'waits_and_overruns_exchanged': (
         'addresses 5 and 6 are exchanged', swapped(5, 'Waits', 6, 'Overruns'),
-        ['chip', 'marked'], [('history', 'write-kept')]),
+        ['chip', 'marked'], [('history', 'write_kept')]),
     'clear_and_disable_exchanged': (
         'addresses 10 and 12 are exchanged', swapped(10, 'Clear', 12, 'Disable'),
-        ['chip', 'marked'], [('history', 'write-kept')]),
+        ['chip', 'marked'], [('history', 'write_kept')]),
     'filter_and_mux_exchanged': (
         'addresses 4 and 8 are exchanged', swapped(4, 'Filter', 8, 'Mux'),
-        ['chip'], [('history', 'write-kept'), ('marked', 'marked-examples')]),
+        ['chip'], [('history', 'write_kept'), ('marked', 'marked_examples')]),
     'enable_and_disable_exchanged': (
         'addresses 11 and 12 are exchanged', swapped(11, 'Enable', 12, 'Disable'),
         [], [('chip', 'seen')]),
@@ -177,48 +180,48 @@ VERSIONS = {
             ('crates/chip/src/place.rt', 'Place::Trigger(false, (address - 96)', 'Place::Trigger(true, (address - 96)'),
             ('crates/chip/specs/Place.antt', 'Trigger true (a - 112)', 'Trigger false (a - 112)'),
             ('crates/chip/specs/Place.antt', 'Trigger false (a - 96)', 'Trigger true (a - 96)'),
-        ], [], [('chip', 'place-trigger')]),
+        ], [], [('chip', 'place_trigger')]),
     'even_bit_wins': (
         'where both bits of a CSR pair are 1, the even one wins', [
             ('crates/control/src/control.rt', '    if odd {\n        return false;\n    }\n    if even {\n        return true;\n    }\n', '    if even {\n        return true;\n    }\n    if odd {\n        return false;\n    }\n'),
             ('crates/control/specs/Control.antt', 'pair even odd before = cond odd false (cond even true before)', 'pair even odd before = cond even true (cond odd false before)'),
-        ], ['control', 'chip', 'marked'], [('history', 'pair-turned')]),
+        ], ['control', 'chip', 'marked'], [('history', 'pair_turned')]),
     'waits_exchanged': (
         'CSR bits 2 and 3 are read wait, 4 and 5 write wait', [
             ('crates/control/src/control.rt', 'self.writewait = pair(bits / 4 % 2 == 1, bits / 8 % 2 == 1,', 'self.writewait = pair(bits / 16 % 2 == 1, bits / 32 % 2 == 1,'),
             ('crates/control/src/control.rt', 'self.readwait = pair(bits / 16 % 2 == 1, bits / 32 % 2 == 1,', 'self.readwait = pair(bits / 4 % 2 == 1, bits / 8 % 2 == 1,'),
-            ('crates/control/specs/Control.antt', '(pair (bit d 2) (bit d 3) (c .writewait))', '(pair (bit d 4) (bit d 5) (c .writewait))'),
-            ('crates/control/specs/Control.antt', '(pair (bit d 4) (bit d 5) (c .readwait))', '(pair (bit d 2) (bit d 3) (c .readwait))'),
-        ], ['control', 'chip'], [('history', 'configured-control'), ('marked', 'marked-examples')]),
+            ('crates/control/specs/Control.antt', '(pair (bit d 2) (bit d 3) c.writewait)', '(pair (bit d 4) (bit d 5) c.writewait)'),
+            ('crates/control/specs/Control.antt', '(pair (bit d 4) (bit d 5) c.readwait)', '(pair (bit d 2) (bit d 3) c.readwait)'),
+        ], ['control', 'chip'], [('history', 'configured_control'), ('marked', 'marked_examples')]),
     'flags_exchanged': (
         'CSR bit 8 reads as flag 9, bit 9 as flag 8', [
             ('crates/control/src/control.rt', '256 * one(self.flagfull) + 512 * one(self.flagbusy)', '512 * one(self.flagfull) + 256 * one(self.flagbusy)'),
-            ('crates/control/specs/Control.antt', '(256 * one (c .flagfull) + 512 * one (c .flagbusy))', '(512 * one (c .flagfull) + 256 * one (c .flagbusy))'),
-        ], ['control', 'chip'], [('history', 'csr-same'), ('marked', 'marked-examples')]),
+            ('crates/control/specs/Control.antt', '(256 * one c.flagfull + 512 * one c.flagbusy)', '(512 * one c.flagfull + 256 * one c.flagbusy)'),
+        ], ['control', 'chip'], [('history', 'csr_same'), ('marked', 'marked_examples')]),
     'off_and_filtered_exchanged': (
         'reply 6 is "filtered", 7 "sampling is off"', [
             ('crates/control/src/reply.rt', 'Reply::Off => 6,', 'Reply::Off => 7,'),
             ('crates/control/src/reply.rt', 'Reply::Filtered => 7,', 'Reply::Filtered => 6,'),
-            ('crates/control/specs/Reply.antt', 'rowOf Off v = record { number = 6;', 'rowOf Off v = record { number = 7;'),
-            ('crates/control/specs/Reply.antt', 'rowOf Filtered v = record { number = 7;', 'rowOf Filtered v = record { number = 6;'),
+            ('crates/control/specs/Reply.antt', 'row_of Off v = record { number = 6;', 'row_of Off v = record { number = 7;'),
+            ('crates/control/specs/Reply.antt', 'row_of Filtered v = record { number = 7;', 'row_of Filtered v = record { number = 6;'),
             ('crates/control/proofs/ReplyLaws.antt', 'Off ∷ Filtered ∷ Lost', 'Filtered ∷ Off ∷ Lost'),
-        ], ['control'], [('chip', 'written-trigger')]),
+        ], ['control'], [('chip', 'written_trigger')]),
     'lost_mark_never_in_the_header': (
         "a sample's header never has bit 4", [
             ('crates/control/src/control.rt', '16 * one(lost)', '0 * one(lost)'),
             ('crates/control/specs/Control.antt', '16 * one lost', '0 * one lost'),
-        ], ['control', 'chip', 'marked'], [('history', 'header-same')]),
+        ], ['control', 'chip', 'marked'], [('history', 'header_same')]),
     'every_sample_of_line_0': (
         "a sample has line 0's number and Source Address, whatever the line", [
             ('crates/chip/src/chip.rt', 'self.sample_now(resource, line, bits)', 'self.sample_now(resource, 0, bits)'),
-            ('crates/chip/specs/Chip.antt', 'queue = pushed (sampleNow resource line bits c)', 'queue = pushed (sampleNow resource 0 bits c)'),
-            ('crates/chip/specs/Sent.antt', '(sampleNow resource line bits c)', '(sampleNow resource 0 bits c)'),
-            ('crates/chip/proofs/Bounds.antt', 'let sample : Held = sampleNow r line bits c in', 'let sample : Held = sampleNow r 0 bits c in'),
-            ('crates/chip/proofs/Bounds.antt', 'push-places (sampleNow true line bits c)', 'push-places (sampleNow true 0 bits c)'),
-            ('crates/chip/proofs/Bounds.antt', 'push-places (sampleNow false line bits c)', 'push-places (sampleNow false 0 bits c)'),
-            ('crates/chip/proofs/Words.antt', '(sampleNow r line bits c) (header-small line small r (c .control .lost)) (within-at 4 8 (c .sources) (s .sources) line)', '(sampleNow r 0 bits c) (header-small 0 (omega arith) r (c .control .lost)) (within-at 4 8 (c .sources) (s .sources) 0)'),
-            ('crates/chip/proofs/Words.antt', 'header-kind line small r (c .control .lost)', 'header-kind 0 (omega arith) r (c .control .lost)', 2),
-        ], ['chip', 'marked'], [('history', 'by-fate')]),
+            ('crates/chip/specs/Chip.antt', 'queue = pushed (sample_now resource line bits c)', 'queue = pushed (sample_now resource 0 bits c)'),
+            ('crates/chip/specs/Sent.antt', '(sample_now resource line bits c)', '(sample_now resource 0 bits c)'),
+            ('crates/chip/proofs/Bounds.antt', 'let sample : Held = sample_now r line bits c in', 'let sample : Held = sample_now r 0 bits c in'),
+            ('crates/chip/proofs/Bounds.antt', 'push_places (sample_now true line bits c)', 'push_places (sample_now true 0 bits c)'),
+            ('crates/chip/proofs/Bounds.antt', 'push_places (sample_now false line bits c)', 'push_places (sample_now false 0 bits c)'),
+            ('crates/chip/proofs/Words.antt', '(sample_now r line bits c) (header_small line small r c.control.lost) (within_at 4 8 c.sources s.sources line)', '(sample_now r 0 bits c) (header_small 0 (omega arith) r c.control.lost) (within_at 4 8 c.sources s.sources 0)'),
+            ('crates/chip/proofs/Words.antt', 'header_kind line small r c.control.lost', 'header_kind 0 (omega arith) r c.control.lost', 2),
+        ], ['chip', 'marked'], [('history', 'by_fate_lem')]),
     'software_events_by_field_01': (
         'field 01 counts software events, 10 external ones', [
             ('crates/counters/src/switches.rt', 'Kind::External => self.enabled & ((SIXTEEN_ONES - self.high) & self.low)', 'Kind::External => self.enabled & (self.high & (SIXTEEN_ONES - self.low))'),
@@ -226,92 +229,99 @@ VERSIONS = {
             ('crates/counters/src/switches.rt', 'return on & (high & !low);', 'return on & (!high & low);'),
             ('crates/counters/specs/Due.antt', 'selects External high low = not high && low', 'selects External high low = high && not low'),
             ('crates/counters/specs/Due.antt', 'selects Software high low = high && not low', 'selects Software high low = not high && low'),
-            ('crates/counters/specs/Due.antt', 'dueMask External s = bitAnd (s .enabled) (bitAnd (2 ^ 16 - 1 - s .high) (s .low))', 'dueMask External s = bitAnd (s .enabled) (bitAnd (s .high) (2 ^ 16 - 1 - s .low))'),
-            ('crates/counters/specs/Due.antt', 'dueMask Software s = bitAnd (s .enabled) (bitAnd (s .high) (2 ^ 16 - 1 - s .low))', 'dueMask Software s = bitAnd (s .enabled) (bitAnd (2 ^ 16 - 1 - s .high) (s .low))'),
-            ('crates/counters/proofs/BitLaws.antt', 'mask-due External s i h p q =', 'mask-due Software′ s i h p q ='),
-            ('crates/counters/proofs/BitLaws.antt', 'mask-due Software s i h p q =', 'mask-due External s i h p q ='),
-            ('crates/counters/proofs/BitLaws.antt', 'mask-due Software′ s i h p q =', 'mask-due Software s i h p q ='),
-            ('crates/counters/proofs/switches/Switches/fires/Proof.antt', '(bit (a .self .high) (a .index) && not (bit (a .self .low) (a .index)))', '(not (bit (a .self .high) (a .index)) && bit (a .self .low) (a .index))'),
-        ], [], [('counters', 'selects-field')]),
+            ('crates/counters/specs/Due.antt', 'due_mask External s = bit_and s.enabled (bit_and (2 ^ 16 - 1 - s.high) s.low)', 'due_mask External s = bit_and s.enabled (bit_and s.high (2 ^ 16 - 1 - s.low))'),
+            ('crates/counters/specs/Due.antt', 'due_mask Software s = bit_and s.enabled (bit_and s.high (2 ^ 16 - 1 - s.low))', 'due_mask Software s = bit_and s.enabled (bit_and (2 ^ 16 - 1 - s.high) s.low)'),
+            ('crates/counters/proofs/BitLaws.antt', 'mask_due External s i h p q =', "mask_due Software' s i h p q ="),
+            ('crates/counters/proofs/BitLaws.antt', 'mask_due Software s i h p q =', 'mask_due External s i h p q ='),
+            ('crates/counters/proofs/BitLaws.antt', "mask_due Software' s i h p q =", 'mask_due Software s i h p q ='),
+            ('crates/counters/proofs/switches/Switches/fires/Answers.antt', '(bit a.self.high a.index && not (bit a.self.low a.index))', '(not (bit a.self.high a.index) && bit a.self.low a.index)'),
+        ], [], [('counters', 'selects_field')]),
     'every_send_answered_5': (
         'at most 8 are held, so every single send is answered with 5', [
             ('crates/chip/src/chip.rt', '    held == 0\n', '    held <= 8\n'),
-            ('crates/chip/specs/Chip.antt', 'use lib.Dec.{ltb, eqb}', 'use lib.Dec.{leb, ltb, eqb}'),
-            ('crates/chip/specs/Chip.antt', 'noneHeld held = eqb held 0', 'noneHeld held = leb held 8'),
-        ], [], [('chip', 'all-rows')]),
+            ('crates/chip/specs/Chip.antt', ', ltb, eqb, get_or, ', ', leb, ltb, eqb, get_or, '),
+            ('crates/chip/specs/Chip.antt', 'none_held held = eqb held 0', 'none_held held = leb held 8'),
+            ('crates/chip/proofs/chip/Chip/send_by/Answers.antt', 'use mathlib.Core.Bool.{Bool}', 'use Prim.Native.Nat.{◌<◌}\nuse native.Mathlib.Omega.{arith}\nuse mathlib.Core.Bool.{Bool}\nuse borrow.Author.Tests.{ne_eqb, leb-false}'),
+            ('crates/chip/proofs/chip/Chip/send_by/Answers.antt', 's.bank.shadows s.queue some)', 's.bank.shadows s.queue (let many : 8 < s.queue.held = leb-false s.queue.held 8 some in ne_eqb s.queue.held 0 (λ q. omega arith)))'),
+        ], [], [('chip', 'all_rows')]),
     'every_value_0': (
         'the value of every reply 0 is 0, so every word sent and every count of a buffer send is', [
             ('crates/chip/src/chip.rt', '            value,\n', '            value: value % 1,\n'),
-            ('crates/chip/specs/Chip.antt', 'done value c = toldRow (rowOf Done value) c', 'done value c = toldRow (rowOf Done (value % 1)) c'),
-        ], [], [('chip', 'given-sends')]),
+            ('crates/chip/specs/Chip.antt', 'done value c = told_row (row_of Done value) c', 'done value c = told_row (row_of Done (value % 1)) c'),
+        ], [], [('chip', 'given_sends')]),
     'reset_only_clears_counters': (
         'a write at 0 clears the counters of its set bits and nothing else', [
             ('crates/chip/src/place.rt', '0 => Place::Reset,', '0 => Place::Clear,'),
             ('crates/chip/specs/Place.antt', 'cond (eqb a 0) Reset', 'cond (eqb a 0) Clear'),
-        ], [], [('chip', 'soft-reset')]),
+        ], [], [('chip', 'soft_reset_lem')]),
     'nine_held_inside': (
         'a record with nine samples held is inside the bounds of 15', [
             ('crates/queue/src/queue.rt', 'if 8 < self.held {', 'if 9 < self.held {'),
-            ('crates/queue/specs/Queue.antt', 'insideQueue w q = leb (q .held) 8', 'insideQueue w q = leb (q .held) 9'),
-            ('crates/queue/proofs/BoundLaws.antt', 'pub few : q .held ≤ 8', 'pub few : q .held ≤ 9'),
-            ('crates/queue/proofs/BoundLaws.antt', 'leb (q .held) 8', 'leb (q .held) 9', 3),
-            ('crates/queue/proofs/BoundLaws.antt', 'leb-true (q .held) 8', 'leb-true (q .held) 9', 2),
-            ('crates/queue/proofs/queue/Queue/inside/Proof.antt', '.held) 8', '.held) 9', 3),
-        ], ['queue'], [('chip', 'inside-bounded')]),
+            ('crates/queue/specs/Queue.antt', 'inside_queue w q = leb q.held 8', 'inside_queue w q = leb q.held 9'),
+            ('crates/queue/proofs/BoundLaws.antt', 'pub few : q.held ≤ 8', 'pub few : q.held ≤ 9'),
+            ('crates/queue/proofs/BoundLaws.antt', 'leb q.held 8', 'leb q.held 9', 3),
+            ('crates/queue/proofs/BoundLaws.antt', 'leb-true q.held 8', 'leb-true q.held 9', 2),
+            ('crates/queue/proofs/queue/Queue/inside/Answers.antt', 'self.held 8', 'self.held 9', 3),
+            ('crates/queue/proofs/queue/Queue/inside/Answers.antt', 'self-gt8', 'self-gt9', 3),
+        ], ['queue'], [('chip', 'inside_bounded')]),
     'even_parity': (
         'bits 0 to 8 have an even number of ones, in table, writer and reader alike', [
             ('crates/words/src/parity.rt', 'const PARITY: [u8; 256] = [', EVEN_TABLE),
-            ('crates/words/specs/Word.antt', 'parityOf b = (onesIn 8 b + 1) % 2', 'parityOf b = onesIn 8 b % 2'),
-            ('crates/words/specs/Word.antt', 'oddOnes w = eqb (onesIn 9 w % 2) 1', 'oddOnes w = eqb (onesIn 9 w % 2) 0'),
-            ('crates/words/proofs/WordLaws.antt', '(onesIn 9 w % 2) 1 (w / 256 % 2) ((onesIn 8 (w % 256) + 1) % 2)', '(onesIn 9 w % 2) 0 (w / 256 % 2) (onesIn 8 (w % 256) % 2)'),
-            ('crates/words/proofs/WordLaws.antt', 'zero-parity : parityOf 0 ≡ 1', 'zero-parity : parityOf 0 ≡ 0'),
-            ('crates/words/proofs/WordLaws.antt', '(b : ℕ) → wordOf last b ≡ 0 → ⊥', '(b : ℕ) → wordOf last b ≡ 0 → b ≡ 0'),
-            ('crates/words/proofs/WordLaws.antt', WORD_SOME, 'word-some last b e = omega arith\n'),
-        ], ['words'], [('samples', 'word-ones')]),
+            ('crates/words/specs/Word.antt', 'parity_of b = (ones_in 8 b + 1) % 2', 'parity_of b = ones_in 8 b % 2'),
+            ('crates/words/specs/Word.antt', 'odd_ones w = eqb (ones_in 9 w % 2) 1', 'odd_ones w = eqb (ones_in 9 w % 2) 0'),
+            ('crates/words/proofs/WordLaws.antt', '(ones_in 9 w % 2) 1 (w / 256 % 2) ((ones_in 8 (w % 256) + 1) % 2)', '(ones_in 9 w % 2) 0 (w / 256 % 2) (ones_in 8 (w % 256) % 2)'),
+            ('crates/words/proofs/WordLaws.antt', 'zero_parity : parity_of 0 ≡ 1', 'zero_parity : parity_of 0 ≡ 0'),
+            ('crates/words/proofs/WordLaws.antt', '(b : ℕ) → word_of last b ≡ 0 → ⊥', '(b : ℕ) → word_of last b ≡ 0 → b ≡ 0'),
+            ('crates/words/proofs/WordLaws.antt', WORD_SOME, 'word_some last b e = omega arith\n'),
+        ], ['words'], [('samples', 'word_ones')]),
     'counters_15_to_0': (
         "a Resource sample's counters are sent and read last first", in_samples({
             'src/sample.rt': [('counters[i] as u64', 'counters[15 - i] as u64')],
             'src/writer.rt': [('counters[i] as u64', 'counters[15 - i] as u64')],
-            'src/reader.rt': [('start + 4 * i', 'start + (60 - 4 * i)'), ('specs.Read.{', 'specs.Read.{countersIn, '), READ_LAST_FIRST],
-            'specs/Layout.antt': [('List.{', 'List.{reverse, '), ('spread counterWidths counters', 'spread counterWidths (reverse counters)')],
-            'specs/Read.antt': [('List.{', 'List.{reverse, '), READ_LAST_FIRST, ('-- the sample that', 'abbrev pub countersIn : List ℕ → List ℕ\ncountersIn bs = reverse (gather counterWidths bs)\n\n-- the sample that')],
+            'src/reader.rt': [('start + 4 * i', 'start + (60 - 4 * i)'), ('specs.Read.{', 'specs.Read.{counters_in, '), READ_LAST_FIRST],
+            'specs/Layout.antt': [('Prelude.{', 'Prelude.{reverse, '), ('spread counter_widths counters', 'spread counter_widths (reverse counters)')],
+            'specs/Read.antt': [('Prelude.{', 'Prelude.{reverse, '), READ_LAST_FIRST, ('-- the sample that', 'abbrev pub counters_in : List ℕ → List ℕ\ncounters_in bs = reverse (gather counter_widths bs)\n\n-- the sample that')],
             'proofs/Gather.antt': [
-                ('use lib.ListN.{', 'use Prim.Native.Nat.{_+_}\nuse lib.Seq.{getD-at}\nuse mathlib.Core.List.{reverse, reverseAux, reverse-cons}\nuse lib.ListN.{List·getD-append, length-reverse, '),
-                ('(drop n bs) (drop-below n bs h))\n', '(drop n bs) (drop-below n bs h))\n' + REVERSE_LAWS)],
-            'proofs/ReadLaws.antt': [('specs.Read.{', 'specs.Read.{countersIn, '), (*READ_LAST_FIRST, 3)],
-            'proofs/SampleLaws.antt': [USES, ('counterWidths (s .counters)', 'counterWidths (reverse (s .counters))', 4), (')) sixteen', ')) (length-reverse (s .counters) ∙ sixteen)')],
+                ('use lib.ListN.{', 'use Prim.Native.Nat.{◌+◌, ◌-◌}\nuse mathlib.Core.List.{reverse, reverse_aux}\nuse Rattle.std.proofs.lemmas.List.{get_or-reverse}\nuse lib.ListN.{'),
+                ('(drop n bs) (drop_below n bs h))\n', '(drop n bs) (drop_below n bs h))\n' + REVERSE_LAWS)],
+            'proofs/ReadLaws.antt': [('specs.Read.{', 'specs.Read.{counters_in, '), (*READ_LAST_FIRST, 3)],
+            'proofs/SampleLaws.antt': [
+                USES, ('counter_widths s.counters', 'counter_widths (reverse s.counters)', 4),
+                ('spread_length counter_widths (reverse s.counters) sixteen', 'spread_length counter_widths (reverse s.counters) (length-reverse s.counters ∙ sixteen)')],
             'proofs/RoundTrip.antt': [
-                USES, ('(gather counterWidths', '(countersIn', 4), ('spread counterWidths (cond r', 'spread counterWidths (reverse (cond r'), ('(replicate 16 0))) []', '(replicate 16 0)))) []'), ('unfolding counterBytes\n', 'unfolding counterBytes within\n'),
-                ('gather-spread counterWidths (s .counters) rest (parts .1)', 'ap reverse (gather-spread counterWidths (reverse (s .counters)) rest (within-reverse counterWidths [] (s .counters) [] (parts .1))) ∙ reverse-reverse (s .counters)')],
+                USES, ('(gather counter_widths', '(counters_in', 4), ('spread counter_widths (cond r', 'spread counter_widths (reverse (cond r'), ('(replicate 16 0))) []', '(replicate 16 0)))) []'), ('unfolding counter_bytes\n', 'unfolding counter_bytes within\n'),
+                ('gather_spread counter_widths s.counters rest parts.1', 'ap reverse (gather_spread counter_widths (reverse s.counters) rest (within_reverse counter_widths [] s.counters [] parts.1)) ∙ reverse-reverse s.counters')],
             'proofs/Theorems.antt': [
-                USES, ('unfolding writable sampleOf gather', 'unfolding writable sampleOf gather within'), ('(resource h) cs', '(resource h) (reverse cs)', 4),
-                ('within-gather counterWidths', 'within-reverse counterWidths [] cs [] (within-gather counterWidths'), ('(map-below ws))) in', '(map-below ws)))) in')],
+                USES, ('unfolding writable sample_of gather', 'unfolding writable sample_of gather within'), ('(resource h) cs', '(resource h) (reverse cs)', 4),
+                ('within_gather counter_widths', 'within_reverse counter_widths [] cs [] (within_gather counter_widths'), ('(map_below ws))) in', '(map_below ws)))) in')],
             'proofs/PlaceLaws.antt': [
-                USES, ('(s .counters) (p - start) (zero-lt-suc 3) sixteen', '(reverse (s .counters)) (p - start) (zero-lt-suc 3) (length-reverse (s .counters) ∙ sixteen)'),
-                ('(getD (s .counters) m 0) n) whole part', '(getD (reverse (s .counters)) m 0) n) whole part ∙ ap (λ (x : ℕ). byteAt x k) (reverse-at (s .counters) (15 - i) i (omega arith))')],
-            'proofs/reader/decode/Proof.antt': [USES, READ_LAST_FIRST],
-            'proofs/reader/counters_of/Proof.antt': [
-                USES, (*READ_LAST_FIRST, 3), ('add-number-at : ', 'sub-number-at : tie.Need-sub-number-at Inv-loop μ-loop\nsub-number-at c = search needs\n\nadd-number-at : '), ('    add-number-at\n', '    sub-number-at\n    add-number-at\n'),
-                ('loop-again c =', 'unfolding gather\nloop-again c ='), ('returns c =', 'unfolding gather\nreturns c ='), ('.start + 4 * c .before .before .loop .i', '.start + (60 - 4 * c .before .before .loop .i)'),
-                ('start + 4 * i ≡ start + i * 4', 'start + (60 - 4 * i) ≡ start + (15 - i) * 4'), ('(i * 4)', '((15 - i) * 4)'), ('(gather-at 4 16 i', '(reverse-at (gather counterWidths (drop start bytes)) (15 - i) i (omega arith) ∙ gather-at 4 16 (15 - i)')],
-            'proofs/sample/counter_byte/Proof.antt': [
-                USES, ('_%_,', '_-_, _/_, _%_,'), ('mul-byte-at : ', 'sub-byte-at : tie.Need-sub-byte-at\nsub-byte-at c = search needs\n\nmul-byte-at : '), ('(tie.spec ', '(tie.spec sub-byte-at '),
-                ('(a .t1) (a .place) (zero-lt-suc 3) (search needs)', '(reverse (a .t1)) (a .place) (zero-lt-suc 3) (length-reverse (a .t1) ∙ search needs)', 2),
-                ('needs))\n\n', 'needs) ∙ ap (λ (x : ℕ). byteAt x (a .place % 4)) (reverse-at (a .t1) (15 - a .place / 4) (a .place / 4) (search needs)))\n\n'), ('default (a .t1) 0 (search needs)', 'default (reverse (a .t1)) 0 (rw length-reverse (search needs))')],
-            'proofs/writer/put_counters/Proof.antt': [
-                USES, ('(drop i counters)', '(drop i (reverse counters))'), ('mul-put-number : ', 'sub-put-number : tie.Need-sub-put-number Inv-loop μ-loop\nsub-put-number c = search needs\n\nmul-put-number : '), ('    mul-put-number\n', '    sub-put-number\n    mul-put-number\n'),
-                ('let xs = a .t2 in', 'let xs = reverse (a .t2) in'), ('length xs ≡ 16 = ', 'length xs ≡ 16 = length-reverse (a .t2) ∙ '), ('(drop (l .i) (a .t2))', '(drop (l .i) (reverse (a .t2)))'),
-                ('.put-number .ensures in', '.put-number .ensures ∙ ap (λ (x : ℕ). sets (l .out) p (plain (lowBytes 4 x))) (sym (reverse-at (a .t2) (15 - l .i) (l .i) (omega arith))) in')],
-        }), [], [('samples', 'in-counter')]),
+                USES, ('s.counters (p - start) (zero-lt-suc 3) sixteen', '(reverse s.counters) (p - start) (zero-lt-suc 3) (length-reverse s.counters ∙ sixteen)'),
+                ('(get_or s.counters m 0) n) whole part', '(get_or (reverse s.counters) m 0) n) whole part ∙ ap (λ (x : ℕ). byte_at x k) (reverse_at s.counters (15 - i) i (omega arith))')],
+            'proofs/reader/decode/Answers.antt': [USES, READ_LAST_FIRST],
+            'proofs/reader/counters_of/Invariants.antt': [('specs.Read.{', 'specs.Read.{counters_in, '), READ_LAST_FIRST],
+            'proofs/reader/counters_of/Answers.antt': [
+                USES, ('Nat.{ℕ, ', 'Nat.{ℕ, ◌-◌, '), (*READ_LAST_FIRST, 2), ('.start + 4 * c.loop-i.i', '.start + (60 - 4 * c.loop-i.i)'),
+                ('let long : length all ≡ 16 = gather_length', 'let sixteen : length (gather counter_widths (drop start bytes)) ≡ 16 = gather_length counter_widths (drop start bytes) in\n    let long : length all ≡ 16 = length-reverse (gather counter_widths (drop start bytes)) ∙ gather_length'),
+                ('16 (gather_length', '16 (length-reverse (gather counter_widths (drop start bytes)) ∙ gather_length'),
+                ('start + 4 * i ≡ start + i * 4', 'start + (60 - 4 * i) ≡ start + (15 - i) * 4'), ('(i * 4)', '((15 - i) * 4)'), ('(gather_at 4 16 i', '(reverse_at (gather counter_widths (drop start bytes)) (15 - i) i (omega arith) ∙ gather_at 4 16 (15 - i)')],
+            'proofs/sample/counter_byte/Answers.antt': [
+                USES, ('Nat.{ℕ, ', 'Nat.{ℕ, ◌-◌, ◌/◌, '),
+                ('a.counters a.place (zero-lt-suc 3) (search rules)', '(reverse a.counters) a.place (zero-lt-suc 3) (length-reverse a.counters ∙ search rules)', 2),
+                ('rules))\n\n', 'rules) ∙ ap (λ (x : ℕ). byte_at x (a.place % 4)) (reverse_at a.counters (15 - a.place / 4) (a.place / 4) (search rules)))\n\n'), ('default a.counters 0 (search rules)', 'default (reverse a.counters) 0 (rw length-reverse (search rules))')],
+            'proofs/writer/put_counters/Invariants.antt': [('List.{List}', 'List.{List, reverse}'), ('(drop l.i l.counters)', '(drop l.i (reverse l.counters))')],
+            'proofs/writer/put_counters/Answers.antt': [
+                USES, ('lib.Seq.{', 'lib.Seq.{sets, '), ('let xs = a.counters in', 'let xs = reverse a.counters in'), ('length xs ≡ 16 = ', 'length xs ≡ 16 = length-reverse a.counters ∙ '), ('(drop l.i a.counters)', '(drop l.i (reverse a.counters))'),
+                ('c.put_number.ensures in', 'c.put_number.ensures ∙ ap (λ (x : ℕ). sets l.out p (plain (low_bytes 4 x))) (sym (reverse_at a.counters (15 - l.i) l.i (omega arith))) in')],
+        }), [], [('samples', 'in_counter')]),
     'hundredth_is_a_99th': (
         "document 02's Wish 2: at the hundredth a slow event falls on every 99th tick, and the bound of 15 goes with it", [
             ('crates/counters/src/switches.rt', 'if self.hundredth { 100 } else { 10 }', 'if self.hundredth { 99 } else { 10 }'),
             ('crates/counters/src/switches.rt', '(ticks / 100) as u32', '(ticks / 99) as u32'),
             ('crates/counters/src/switches.rt', '(ticks % 100) as u8', '(ticks % 99) as u8'),
-            ('crates/counters/specs/Due.antt', 'divisorOf hundredth = cond hundredth 100 10', 'divisorOf hundredth = cond hundredth 99 10'),
-            ('crates/chip/specs/Rows.antt', 'c .switches .phase < 100', 'c .switches .phase < 99'),
-            ('crates/chip/proofs/RoomLaws.antt', 'c .switches .phase < 100', 'c .switches .phase < 99'),
-        ], ['counters', 'chip', 'marked'], [('history', 'slow-same')]),
+            ('crates/counters/specs/Due.antt', 'divisor_of hundredth = cond hundredth 100 10', 'divisor_of hundredth = cond hundredth 99 10'),
+            ('crates/chip/specs/Rows.antt', 'c.switches.phase < 100', 'c.switches.phase < 99'),
+            ('crates/chip/proofs/RoomLaws.antt', 'c.switches.phase < 100', 'c.switches.phase < 99'),
+        ], ['counters', 'chip', 'marked'], [('history', 'slow_same')]),
     'discards_after_a_reset': (
         "document 02's Wish 7: neither reset sets write wait, and what is said by numbers goes with it", [
             ('crates/control/src/control.rt', 'writewait: true,', 'writewait: false,'),
@@ -319,62 +329,85 @@ VERSIONS = {
             ('crates/control/proofs/FreshLaws.antt', '≡ 4', '≡ 0'),
             ('crates/chip/proofs/Resets.antt', '1 ∷ replicate 86 0', '0 ∷ replicate 86 0', 3),
             ('crates/chip/proofs/Resets.antt', 'done 4', 'done 0', 5),
-        ], ['control', 'chip', 'marked'], [('history', 'reset-record')]),
+        ], ['control', 'chip', 'marked'], [('history', 'reset_record')]),
     'overrun_notices_a_wait': (
         "document 02's Wish 8: a wait makes the Overrun Counter the Wait Counter's number", [
             ('crates/control/src/control.rt', 'self.wait = next;', 'self.wait = next; self.overrun = next;'),
-            ('crates/control/specs/Control.antt', 'waited c = withErrors (grown (c .wait) 1) (c .overrun) c', 'waited c = withErrors (grown (c .wait) 1) (grown (c .wait) 1) c'),
-            ('crates/control/proofs/control/Control/waited/Proof.antt', 'withErrors n (s .overrun) s', 'withErrors n n s'),
-        ], ['control', 'chip', 'marked'], [('history', 'waited-control')]),
+            ('crates/control/specs/Control.antt', 'waited c = with_errors (grown c.wait 1) c.overrun c', 'waited c = with_errors (grown c.wait 1) (grown c.wait 1) c'),
+            ('crates/control/proofs/control/Control/waited/Answers.antt', 'with_errors n s.overrun s', 'with_errors n n s'),
+        ], ['control', 'chip', 'marked'], [('history', 'waited_control')]),
 }
 
 
 def change(folder, changes):
+    """Makes the changes of a version, and gives the files as they were."""
+    before, after = {}, {}
     for name, old, new, *times in changes:
         path = os.path.join(folder, name)
-        with open(path, encoding='utf-8') as file:
-            text = file.read()
-        if [text.count(old)] != (times or [1]):
-            sys.exit('idle: %s has this text %d times: %s' % (name, text.count(old), old))
-        with open(path, 'w', encoding='utf-8') as file:
-            file.write(text.replace(old, new))
+        if path not in before:
+            with open(path, encoding='utf-8') as file:
+                before[path] = after[path] = file.read()
+        if [after[path].count(old)] != (times or [1]):
+            sys.exit('idle: %s has this text %d times: %s' % (name, after[path].count(old), old))
+        after[path] = after[path].replace(old, new)
+    for path, text in after.items():
+        write(path, text)
+    return before
+
+
+def write(path, text):
+    with open(path, 'w', encoding='utf-8') as file:
+        file.write(text)
 
 
 def check(folder, crate):
     """None if the crate is proved, else the law that the first error names."""
-    run = subprocess.run(['rt', 'check', crate], cwd=folder, capture_output=True, text=True, env=dict(os.environ, RT_JOBS='1'))
-    if run.returncode == 0:
+    run = subprocess.run(['rt', 'check', '--jobs', '1'], cwd=os.path.join(folder, 'crates', crate), capture_output=True, text=True)
+    said = run.stdout + run.stderr
+    if run.returncode == 0 and re.findall(r'^logic=(\S+)', said, re.M)[-1:] == ['proved']:
         return None
-    found = re.search(r'error: `([^`]+)`', run.stdout + run.stderr)
+    found = re.search(r': error: `([^`]+)`', said)
     return found.group(1) if found else 'no law named'
 
 
-def tried(name):
+def tried(name, folders):
     """What a version's crates gave, as lines, and how many are not as the table says."""
     says, changes, proved, refused = VERSIONS[name]
-    lines, bad = ['%s: %s' % (name, says)], 0
-    with tempfile.TemporaryDirectory() as place:
-        folder = os.path.join(place, 'repository')
-        shutil.copytree(ROOT, folder, symlinks=True)
-        change(folder, changes)
+    lines, bad, before, folder = ['%s: %s' % (name, says)], 0, {}, folders.get()
+    try:
+        before = change(folder, changes)
         for crate, law in [(crate, None) for crate in proved] + refused:
             found = check(folder, crate)
             as_expected = found == law
             bad += not as_expected
             lines.append('  %s: %s%s' % (crate, 'proved' if found is None else 'refused at `%s`' % found,
                                          '' if as_expected else ', NOT AS EXPECTED (%s)' % (law or 'proved')))
+    finally:
+        for path, text in before.items():
+            write(path, text)
+        folders.put(folder)
     return lines, bad
 
 
 def main():
-    names = sys.argv[1:] or list(VERSIONS)
+    names = sys.argv[1:]
+    lanes = os.cpu_count()
+    if names[:1] == ['--jobs']:
+        lanes, names = int(names[1]), names[2:]
+    names = names or list(VERSIONS)
     wrong = [name for name in names if name not in VERSIONS]
     if wrong:
         sys.exit('idle: no version %s; there are %s' % (', '.join(wrong), ', '.join(VERSIONS)))
-    faults = 0
-    # A check takes one core.
-    with concurrent.futures.ThreadPoolExecutor(os.cpu_count()) as pool:
-        for lines, bad in pool.map(tried, names):
+    lanes, faults = min(lanes, len(names)), 0
+    # A check takes one core, and each lane has a copy of its own, without what was built: a check there begins with what others on this
+    # machine kept of the same crates.
+    with tempfile.TemporaryDirectory() as place, concurrent.futures.ThreadPoolExecutor(lanes) as pool:
+        folders = queue.Queue()
+        for lane in range(lanes):
+            folder = os.path.join(place, str(lane))
+            shutil.copytree(ROOT, folder, symlinks=True, ignore=shutil.ignore_patterns('.git', 'out'))
+            folders.put(folder)
+        for lines, bad in pool.map(tried, names, [folders] * len(names)):
             print('\n'.join(lines), flush=True)
             faults += bad
     print('idle: %d versions, %s' % (len(names), '%d verdicts not as expected' % faults if faults else 'all as expected'))

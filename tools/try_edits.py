@@ -4,7 +4,7 @@
     tools/try_edits.py [NAME ..]
 
 tools/edits/CRATE/NAME.edit changes the crate CRATE. Each edit is applied to a
-copy of the repository and the crate checked by `rt dev`; the first error is
+copy of the repository and the crate checked by `rt check`; the first error is
 printed, or the first fact that isn't proved. Without names all are tried, some
 ten seconds each. The status is 1 if one of them isn't refused. The gate has an edit for each statement; these are
 others for the same statements, too many for its time.
@@ -52,12 +52,12 @@ def main():
     taken = []
     with tempfile.TemporaryDirectory() as folder:
         copy = os.path.join(folder, "copy")
-        shutil.copytree(ROOT, copy, ignore=shutil.ignore_patterns(".git"))
+        shutil.copytree(ROOT, copy, symlinks=True, ignore=shutil.ignore_patterns(".git", "out"))
         for path in paths:
             crate, name = os.path.basename(os.path.dirname(path)), os.path.basename(path)[: -len(".edit")]
             before = apply(path, os.path.join(copy, "crates", crate))
-            done = subprocess.run(["rt", "dev", crate], cwd=copy, stdout=subprocess.PIPE, stderr=subprocess.STDOUT, text=True)
-            said = [line.replace(copy + "/", "") for line in done.stdout.split("\n") if ": error: " in line or "is not proved that" in line]
+            done = subprocess.run(["rt", "check", "--jobs", "1"], cwd=os.path.join(copy, "crates", crate), stdout=subprocess.PIPE, stderr=subprocess.STDOUT, text=True)
+            said = [line.replace(copy + "/", "") for line in done.stdout.split("\n") if ": error: " in line or "is not proved that" in line or ": no proof: " in line]
             for target, text in before.items():
                 write(target, text)
             print(f"{crate}/{name}: {said[0][:120] if done.returncode and said else 'TAKEN'}", flush=True)
