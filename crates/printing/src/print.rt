@@ -25,69 +25,60 @@ pub fn heading(name: &[u8]) {
     text(b"\n");
 }
 
-// Equal numbers that are not printed yet.
+// Equal numbers that are not printed yet, at least one.
 #[derive(Clone, Copy)]
 pub struct Run {
     pub value: u64,
     pub count: u64,
 }
 
-pub fn no_run() -> Run
+// Nothing is held back.
+pub fn no_run() -> Option<Run>
     ensures { result ≡ empty_run }
 {
-    Run { value: 0, count: 0 }
+    None
 }
 
 // One number more: the run grows, or is printed and the next begins.
-pub fn add(run: Run, value: u64) -> Run
+pub fn add(run: Option<Run>, value: u64) -> Option<Run>
     ensures { result ≡ grown_by value run }
 {
-    if run.count == 0 {
-        return Run { value, count: 1 };
-    }
-    if run.value == value {
-        return Run {
+    match run {
+        Some(run) if run.value == value => Some(Run {
             value,
-            count: std::num::wrapping_add_u64(run.count, 1),
-        };
+            count: run.count.wrapping_add(1),
+        }),
+        _ => {
+            end(run);
+            Some(Run { value, count: 1 })
+        }
     }
-    end(run);
-    Run { value, count: 1 }
 }
 
-pub fn end(run: Run) {
-    if run.count == 0 {
-        return;
-    }
-    field(b" ", run.value);
-    if 1 < run.count {
-        field(b"x", run.count);
+// Prints what is held back.
+pub fn end(run: Option<Run>) {
+    if let Some(run) = run {
+        field(b" ", run.value);
+        if 1 < run.count {
+            field(b"x", run.count);
+        }
     }
 }
 
 pub fn words(ws: &[u16]) {
-    let mut run = no_run();
-    let mut i = 0;
-    while i < ws.len() {
-        run = add(run, wide(ws[i]));
-        i += 1;
-    }
-    end(run);
+    numbers(ws);
 }
 
 // A sample's counters.
 pub fn counters(cs: [u32; 16]) {
-    let mut run = no_run();
-    let mut i = 0;
-    while i < 16 {
-        run = add(run, cs[i] as u64);
-        i += 1;
-    }
-    end(run);
+    numbers(&cs);
 }
 
-fn wide(x: u16) -> u64
-    ensures { result ≡ x }
-{
-    x as u64
+// Numbers of any width, equal ones as a run.
+fn numbers<N: Copy + Into<u64>>(ns: &[N]) {
+    let mut run = no_run();
+    for n in ns {
+        run = add(run, (*n).into());
+    }
+    end(run);
 }
