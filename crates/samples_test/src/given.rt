@@ -71,13 +71,7 @@ pub fn with_counter(sample: Sample, place: usize, value: u32) -> Sample {
 }
 
 pub fn with_counters(sample: Sample, counters: [u32; 16]) -> Sample {
-    Sample {
-        user: sample.user,
-        stamp: sample.stamp,
-        source: sample.source,
-        header: sample.header,
-        counters,
-    }
+    Sample { counters, ..sample }
 }
 
 // Fields whose bytes tell their place, beyond the widths too: a1 to a4, b1 to b8, c1 to c8, and d1 to d4 and e1 to e4 in counters 0 and 15.

@@ -33,9 +33,7 @@ pub fn bytes(edition: Edition, name: &[u8], header: u32, resource: bool) {
 }
 
 fn bytes_below(edition: Edition, sample: Sample, end: usize) {
-    let mut i = 0;
-    while i < end {
-        show::hex(sample_byte(edition, sample, i));
-        i += 1;
+    for place in 0..end {
+        show::hex(sample_byte(edition, sample, place));
     }
 }

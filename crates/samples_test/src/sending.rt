@@ -56,12 +56,9 @@ fn buffer(words: &[u16]) {
 // A single send for each place; with nothing held the word is 0.
 fn one_by_one(edition: Edition, queue: Queue, out: &mut [u16]) {
     let mut left = queue;
-    let mut i = 0;
-    while i < out.len() {
+    for word in out {
         let sent = left.send(edition, SHADOWS);
-        out[i] = sent.word;
-        let next = sent.queue;
-        left = next;
-        i += 1;
+        *word = sent.word;
+        left = sent.queue;
     }
 }

@@ -14,8 +14,7 @@ fn fields(sample: Sample) {
     print::field(b" stamp ", sample.stamp);
     print::field(b" user ", sample.user);
     print::text(b" counters");
-    let cs = sample.counters;
-    print::counters(cs);
+    print::counters(sample.counters);
 }
 
 // Begins a line: what is done, in which edition, and the case's name or its first part.
@@ -30,26 +29,22 @@ pub fn case(done: &[u8], edition: Edition, name: &[u8]) {
 
 // How many words of a sample are read, as the end of a name.
 pub fn words(count: usize) {
-    if count == 0 {
-        print::text(b", no word");
-        return;
+    match count {
+        0 => print::text(b", no word"),
+        1 => print::text(b", 1 word"),
+        _ => {
+            print::field(b", ", count as u64);
+            print::text(b" words");
+        }
     }
-    if count == 1 {
-        print::text(b", 1 word");
-        return;
-    }
-    print::field(b", ", count as u64);
-    print::text(b" words");
 }
 
 // The room in a buffer of 100 places, where it isn't all of them, as the end of a name.
 pub fn room(room: usize) {
-    if room == 0 {
-        print::text(b", no room");
-        return;
-    }
-    if room < 100 {
-        print::field(b", room ", room as u64);
+    match room {
+        0 => print::text(b", no room"),
+        1..100 => print::field(b", room ", room as u64),
+        _ => {}
     }
 }
 
@@ -91,10 +86,8 @@ pub fn bytes(edition: Edition, name: &[u8], ws: &[u16]) {
 }
 
 fn data(ws: &[u16]) {
-    let mut i = 0;
-    while i < ws.len() {
-        hex(byte(ws[i]));
-        i += 1;
+    for word in ws {
+        hex(byte(*word));
     }
 }
 
