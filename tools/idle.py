@@ -140,7 +140,7 @@ VERSIONS = {
         ], ['queue'], [('chip', 'rows_room')]),
     'overruns_counted_twice': (
         'a lost trigger adds two to the Overrun Counter', [
-            ('crates/control/src/control.rt', 'wrapping_add_u32(self.overrun, 1)', 'wrapping_add_u32(self.overrun, 2)'),
+            ('crates/control/src/control.rt', 'self.overrun.wrapping_add(1)', 'self.overrun.wrapping_add(2)'),
             ('crates/control/specs/Control.antt', '(grown c.overrun 1)', '(grown c.overrun 2)'),
         ], ['control', 'chip', 'marked'], [('history', 'lost_control')]),
     'buffer_count_invented': (
@@ -154,7 +154,7 @@ VERSIONS = {
             ('crates/chip/src/chip.rt', 'user: bits % TWO_48,', 'user: bits % 1,'),
             ('crates/chip/src/chip.rt', 'stamp: self.stamp % TWO_40,', 'stamp: self.stamp % 1,'),
             ('crates/chip/src/chip.rt', 'source: self.source(line as usize),', 'source: self.source(line as usize) % 1,'),
-            ('crates/control/src/control.rt', 'line as u32 + 8', 'line as u32 % 1 + 8'),
+            ('crates/control/src/control.rt', 'u32::from(line) + 8', 'u32::from(line) % 1 + 8'),
             ('crates/chip/specs/Chip.antt', 'user = bits % 2 ^ 48;', 'user = bits % 1;'),
             ('crates/chip/specs/Chip.antt', 'stamp = c.stamp % 2 ^ 40;', 'stamp = c.stamp % 1;'),
             ('crates/chip/specs/Chip.antt', 'source = get_or c.sources line 0;', 'source = get_or c.sources line 0 % 1;'),
@@ -195,7 +195,7 @@ VERSIONS = {
         ], ['control', 'chip'], [('history', 'configured_control'), ('marked', 'marked_examples')]),
     'flags_exchanged': (
         'CSR bit 8 reads as flag 9, bit 9 as flag 8', [
-            ('crates/control/src/control.rt', '256 * one(self.flagfull) + 512 * one(self.flagbusy)', '512 * one(self.flagfull) + 256 * one(self.flagbusy)'),
+            ('crates/control/src/control.rt', '256 * u64::from(self.flagfull) + 512 * u64::from(self.flagbusy)', '512 * u64::from(self.flagfull) + 256 * u64::from(self.flagbusy)'),
             ('crates/control/specs/Control.antt', '(256 * one c.flagfull + 512 * one c.flagbusy)', '(512 * one c.flagfull + 256 * one c.flagbusy)'),
         ], ['control', 'chip'], [('history', 'csr_same'), ('marked', 'marked_examples')]),
     'off_and_filtered_exchanged': (
@@ -208,7 +208,7 @@ VERSIONS = {
         ], ['control'], [('chip', 'written_trigger')]),
     'lost_mark_never_in_the_header': (
         "a sample's header never has bit 4", [
-            ('crates/control/src/control.rt', '16 * one(lost)', '0 * one(lost)'),
+            ('crates/control/src/control.rt', '16 * u32::from(lost)', '0 * u32::from(lost)'),
             ('crates/control/specs/Control.antt', '16 * one lost', '0 * one lost'),
         ], ['control', 'chip', 'marked'], [('history', 'header_same')]),
     'every_sample_of_line_0': (
@@ -332,9 +332,8 @@ VERSIONS = {
         ], ['control', 'chip', 'marked'], [('history', 'reset_record')]),
     'overrun_notices_a_wait': (
         "document 02's Wish 8: a wait makes the Overrun Counter the Wait Counter's number", [
-            ('crates/control/src/control.rt', 'self.wait = next;', 'self.wait = next; self.overrun = next;'),
+            ('crates/control/src/control.rt', 'self.wait = self.wait.wrapping_add(1);', 'self.wait = self.wait.wrapping_add(1); self.overrun = self.wait;'),
             ('crates/control/specs/Control.antt', 'waited c = with_errors (grown c.wait 1) c.overrun c', 'waited c = with_errors (grown c.wait 1) (grown c.wait 1) c'),
-            ('crates/control/proofs/control/Control/waited/Answers.antt', 'with_errors n s.overrun s', 'with_errors n n s'),
         ], ['control', 'chip', 'marked'], [('history', 'waited_control')]),
 }
 

@@ -22,7 +22,8 @@ use Rattle.queue.specs.declared.queue.Held.{Held}
 use Rattle.queue.specs.declared.queue.Queue.{Queue}
 use Rattle.queue.proofs.BoundLaws.{advance_bounds, advance_places, push_bounds, push_places, send_bounds, send_places}
 use Rattle.control.specs.Control.{waited}
-use Rattle.control.specs.Fate.{Fate, is_off, is_filtered, is_lost, is_told, is_taken}
+use Rattle.control.specs.declared.fate.Fate.{Fate}
+use Rattle.control.specs.declared.fate.Fate.TheVariants.{Off as is_off, Filtered as is_filtered, Lost as is_lost, Wait as is_told, Taken as is_taken}
 use Rattle.control.specs.declared.control.Control.{Control}
 use Rattle.control.specs.declared.reply.Reply.TheVariants.{Lines, NoWord, Wait, Busy, Outside}
 use Rattle.chip.specs.Chip.{after_ticks, done, external_events, fate_of, fresh, inside, line_of, node_ticks, one_line, read, read_at, read_counter, replied, sample_now, send, send_into, send_now, soft_reset, take_sample, timestamp_ticks, trigger, trigger_by, with_bank, with_control, with_queue, with_sources, with_switches, write, write_at}

@@ -8,7 +8,8 @@ use Rattle.samples.specs.Layout.{widths}
 use Rattle.samples.specs.declared.edition.Edition.TheVariants.{First}
 use Rattle.queue.specs.Queue.{advanced, busy, full, next_word}
 use Rattle.control.specs.Control.{overran, waited}
-use Rattle.control.specs.Fate.{Fate, is_off, is_filtered, is_lost, is_told, is_taken}
+use Rattle.control.specs.declared.fate.Fate.{Fate}
+use Rattle.control.specs.declared.fate.Fate.TheVariants.{Off as is_off, Filtered as is_filtered, Lost as is_lost, Wait as is_told, Taken as is_taken}
 use Rattle.control.specs.declared.reply.Reply.TheVariants.{Lines, NoWord, Wait, Busy, Outside}
 use Rattle.chip.specs.Chip.{after_ticks, blocked, done, external_events, fate_of, inside, line_of, node_ticks, one_line, read, read_at, read_counter, replied, send, send_into, send_now, timestamp_ticks, trigger, trigger_by, with_control, with_queue, write, write_at}
 use Rattle.chip.specs.Operation.{Operation, op_reset, op_write, op_read, op_ticks, op_nodes, op_events, op_send, op_fill, step}

@@ -9,7 +9,8 @@ use lib.ListN.{get_or}
 use borrow.Author.Tests.{lt-leb, ne_eqb}
 use Rattle.counters.specs.Bank.{copied}
 use Rattle.control.specs.Control.{waited}
-use Rattle.control.specs.Fate.{Fate, is_off, is_filtered, is_lost, is_told, is_taken}
+use Rattle.control.specs.declared.fate.Fate.{Fate}
+use Rattle.control.specs.declared.fate.Fate.TheVariants.{Off as is_off, Filtered as is_filtered, Lost as is_lost, Wait as is_told, Taken as is_taken}
 use Rattle.control.specs.declared.reply.Reply.TheVariants.{Busy, Outside, Wait}
 use Rattle.chip.specs.Chip.{done, external_events, fate_of, inside, line_of, node_ticks, one_line, read, read_at, read_counter, replied, send, send_into, timestamp_ticks, trigger, trigger_by, with_bank, with_control, write, write_at}
 use Rattle.chip.specs.Operation.{Operation, op_reset, op_write, op_read, op_ticks, op_nodes, op_events, op_send, op_fill, step}

@@ -23,7 +23,8 @@ use Rattle.queue.specs.Queue.{first_count, first_held, held_sample, send_words}
 use Rattle.queue.specs.declared.queue.Held.{Held}
 use Rattle.queue.proofs.CountLaws.{words_first}
 use Rattle.queue.proofs.QueueLaws.{held_sixteen}
-use Rattle.control.specs.Fate.{Fate, is_off, is_filtered, is_lost, is_told, is_taken}
+use Rattle.control.specs.declared.fate.Fate.{Fate}
+use Rattle.control.specs.declared.fate.Fate.TheVariants.{Off as is_off, Filtered as is_filtered, Lost as is_lost, Wait as is_told, Taken as is_taken}
 use Rattle.control.specs.declared.reply.Reply.TheVariants.{Lines, Outside}
 use Rattle.control.proofs.HeaderLaws.{header_kind, header_small}
 use Rattle.chip.specs.Chip.{done, fate_of, inside, line_of, one_line, replied, sample_now, take_sample, trigger, trigger_by, write, write_at}

@@ -27,7 +27,8 @@ use Rattle.queue.specs.declared.queue.Held.{Held}
 use Rattle.queue.specs.declared.queue.Queue.{Queue}
 use Rattle.queue.proofs.BoundLaws.{advance_bounds, advance_places, push_bounds, push_places, send_bounds, send_places}
 use Rattle.control.specs.Control.{taken, waited}
-use Rattle.control.specs.Fate.{Fate, is_off, is_filtered, is_lost, is_told, is_taken}
+use Rattle.control.specs.declared.fate.Fate.{Fate}
+use Rattle.control.specs.declared.fate.Fate.TheVariants.{Off as is_off, Filtered as is_filtered, Lost as is_lost, Wait as is_told, Taken as is_taken}
 use Rattle.control.specs.declared.control.Control.{Control}
 use Rattle.control.specs.declared.reply.Reply.TheVariants.{Lines, NoWord, Wait, Busy, Outside}
 use Rattle.control.proofs.StatusLaws.{csr_below, one_most}

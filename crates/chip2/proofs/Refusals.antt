@@ -9,7 +9,8 @@ use Rattle.samples.specs.Layout.{widths}
 use Rattle.samples.specs.declared.edition.Edition.TheVariants.{Second}
 use Rattle.queue.specs.Queue.{advanced, busy, full, next_word}
 use Rattle.control.specs.Control.{overran, waited}
-use Rattle.control.specs.Fate.{Fate, is_off, is_filtered, is_lost, is_told, is_taken}
+use Rattle.control.specs.declared.fate.Fate.{Fate}
+use Rattle.control.specs.declared.fate.Fate.TheVariants.{Off as is_off, Filtered as is_filtered, Lost as is_lost, Wait as is_told, Taken as is_taken}
 use Rattle.control.specs.declared.reply.Reply.TheVariants.{Lines, NoWord, Wait, Busy, Outside}
 use Rattle.chip.specs.Chip.{blocked, line_of, one_line}
 use Rattle.chip.specs.Place.{between}

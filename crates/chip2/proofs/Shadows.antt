@@ -10,7 +10,8 @@ use lib.ListN.{get_or}
 use borrow.Author.Tests.{lt-leb, ne_eqb}
 use Rattle.counters.specs.Bank.{copied}
 use Rattle.control.specs.Control.{waited}
-use Rattle.control.specs.Fate.{Fate, is_off, is_filtered, is_lost, is_told, is_taken}
+use Rattle.control.specs.declared.fate.Fate.{Fate}
+use Rattle.control.specs.declared.fate.Fate.TheVariants.{Off as is_off, Filtered as is_filtered, Lost as is_lost, Wait as is_told, Taken as is_taken}
 use Rattle.control.specs.declared.reply.Reply.TheVariants.{Busy, Outside, Wait}
 use Rattle.chip.specs.Chip.{line_of, one_line}
 use Rattle.chip.specs.Place.{between}

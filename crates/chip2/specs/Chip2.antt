@@ -13,7 +13,9 @@ use Rattle.queue.specs.Queue.{advanced, busy, empty_queue, full, inside_queue, n
 use Rattle.queue.specs.declared.queue.Held.{Held}
 use Rattle.queue.specs.declared.queue.Queue.{Queue}
 use Rattle.control.specs.Control.{configured, csr_of, filtering, fresh_control, header_of, one, overran, pair, taken, overruns_cleared, waits_cleared, waited}
-use Rattle.control.specs.Fate.{Fate, fate, is_off, is_filtered, is_lost, is_told, is_taken}
+use Rattle.control.specs.Fate.{fate}
+use Rattle.control.specs.declared.fate.Fate.{Fate}
+use Rattle.control.specs.declared.fate.Fate.TheVariants.{Off as is_off, Filtered as is_filtered, Lost as is_lost, Wait as is_told, Taken as is_taken}
 use Rattle.control.specs.Reply.{row_of}
 use Rattle.control.specs.declared.control.Control.{Control}
 use Rattle.control.specs.declared.reply.Reply.{Reply}

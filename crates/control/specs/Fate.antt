@@ -1,9 +1,7 @@
--- Document 01, "Triggers and the queue": what becomes of a trigger that has exactly one active line.
+-- Document 01, "Triggers and the queue": what becomes of a trigger that has exactly one active line: off, filtered, lost, told to wait, or taken.
 use Rattle.std.specs.Prelude.{Bool, cond}
-
--- off, filtered, lost, told to wait, or taken
-pub data Fate : Type 0 where
-  is_off is_filtered is_lost is_told is_taken : Fate
+use Rattle.control.specs.declared.fate.Fate.{Fate}
+use Rattle.control.specs.declared.fate.Fate.TheVariants.{Off as is_off, Filtered as is_filtered, Lost as is_lost, Wait as is_told, Taken as is_taken}
 
 -- "sampling is off", "filtered"; "Lacking room, it replies 10 under write wait. Otherwise it replies 8"
 abbrev pub fate : Bool → Bool → Bool → Bool → Fate

@@ -1,10 +1,13 @@
 // The settings, the Filter, the error counters, the overrun flags and the lost mark; and a sample's header, which tells of it.
-ghost use Rattle.std.specs.Prelude.{◌≡◌, ◌≤◌};
+ghost use Rattle.std.specs.Prelude.{◌≡◌, ◌||◌};
 ghost use Rattle.counters.specs.Bank.{bit};
-ghost use Rattle.control.specs.Control.{configured, csr_of, filtering, fresh_control, header_of, one, overran, pair, taken, overruns_cleared, waits_cleared, waited};
+ghost use Rattle.control.specs.Fate.{fate};
+ghost use Rattle.control.specs.Control.{configured, csr_of, filtering, fresh_control, header_of, overran, pair, taken, overruns_cleared, waits_cleared, waited};
+
+use super::fate::Fate;
 
 // No padding (16 bytes). The Filter stands last: before the bools it makes every operation dearer (docs/PERFORMANCE.md, "Wait by default").
-#[derive(Clone, Copy)]
+#[derive(Clone, Copy, PartialEq, Eq)]
 pub struct Control {
     pub wait: u32,
     pub overrun: u32,
@@ -58,8 +61,7 @@ impl Control {
     pub fn waited(mut self) -> Control
         ensures { result ≡ waited self }
     {
-        let next = std::num::wrapping_add_u32(self.wait, 1);
-        self.wait = next;
+        self.wait = self.wait.wrapping_add(1);
         self
     }
 
@@ -74,8 +76,7 @@ impl Control {
     pub fn overran(mut self, full: bool, busy: bool) -> Control
         ensures { result ≡ overran full busy self }
     {
-        let next = std::num::wrapping_add_u32(self.overrun, 1);
-        self.overrun = next;
+        self.overrun = self.overrun.wrapping_add(1);
         self.flagfull = self.flagfull | full;
         self.flagbusy = self.flagbusy | busy;
         self.lost = true;
@@ -111,14 +112,33 @@ impl Control {
         }
     }
 
+    // What becomes of a trigger of a level, where the queue is full or not and the shadows are busy for it or not.
+    pub fn fate(self, level: usize, full: bool, busy: bool) -> Fate
+        ensures { result ≡ fate self.sampling (bit self.filter level) (full || busy) self.writewait }
+    {
+        if !self.sampling {
+            Fate::Off
+        } else if !self.passes(level) {
+            Fate::Filtered
+        } else if !(full | busy) {
+            Fate::Taken
+        } else if self.writewait {
+            Fate::Wait
+        } else {
+            Fate::Lost
+        }
+    }
+
     // The CSR as it is read.
     pub fn csr(self, full: bool, busy: bool) -> u64
         ensures { result ≡ csr_of full busy self }
     {
-        let settings = one(self.sampling) + 4 * one(self.writewait) + 16 * one(self.readwait);
-        let queue = 64 * one(full) + 128 * one(busy);
-        let flags = 256 * one(self.flagfull) + 512 * one(self.flagbusy);
-        (settings + queue + flags) as u64
+        let settings = u64::from(self.sampling)
+            + 4 * u64::from(self.writewait)
+            + 16 * u64::from(self.readwait);
+        let queue = 64 * u64::from(full) + 128 * u64::from(busy);
+        let flags = 256 * u64::from(self.flagfull) + 512 * u64::from(self.flagbusy);
+        settings + queue + flags
     }
 }
 
@@ -139,13 +159,5 @@ pub fn pair(even: bool, odd: bool, before: bool) -> bool
 pub fn header_of(line: u8, resource: bool, lost: bool) -> u32
     ensures { result ≡ header_of line resource lost }
 {
-    line as u32 + 8 * one(resource) + 16 * one(lost)
-}
-
-// A flag as a number.
-fn one(flag: bool) -> u32
-    ensures value { result ≡ one flag }
-    ensures upper_bound { result ≤ 1 }
-{
-    if flag { 1 } else { 0 }
+    u32::from(line) + 8 * u32::from(resource) + 16 * u32::from(lost)
 }

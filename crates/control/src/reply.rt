@@ -2,7 +2,7 @@
 ghost use Rattle.std.specs.Prelude.{◌≡◌};
 ghost use Rattle.control.specs.Reply.{reply_number, reply_value};
 
-#[derive(Clone, Copy)]
+#[derive(Clone, Copy, PartialEq, Eq)]
 pub enum Reply {
     Done,
     TooHigh,
@@ -18,45 +18,50 @@ pub enum Reply {
     Outside,
 }
 
-// Document 01's number of a reply.
-pub fn number_of(reply: Reply) -> u64
-    ensures { result ≡ reply_number reply }
-{
-    match reply {
-        Reply::Done => 0,
-        Reply::TooHigh => 1,
-        Reply::Nothing => 2,
-        Reply::Forbidden => 3,
-        Reply::Lines => 4,
-        Reply::NoWord => 5,
-        Reply::Off => 6,
-        Reply::Filtered => 7,
-        Reply::Lost => 8,
-        Reply::Wait => 10,
-        Reply::Busy => 11,
-        Reply::Outside => 15,
-    }
-}
-
 // Bit 63 alone.
 const TWO_63: u64 = 1 << 63;
 
-// Document 01's value of a reply that reads, sends and writes nothing.
+impl Reply {
+    // Document 01's number of a reply.
+    pub fn number(self) -> u64
+        ensures { result ≡ reply_number self }
+    {
+        match self {
+            Reply::Done => 0,
+            Reply::TooHigh => 1,
+            Reply::Nothing => 2,
+            Reply::Forbidden => 3,
+            Reply::Lines => 4,
+            Reply::NoWord => 5,
+            Reply::Off => 6,
+            Reply::Filtered => 7,
+            Reply::Lost => 8,
+            Reply::Wait => 10,
+            Reply::Busy => 11,
+            Reply::Outside => 15,
+        }
+    }
+
+    // Document 01's value of a reply that reads, sends and writes nothing.
+    pub fn value(self) -> u64
+        ensures { result ≡ reply_value self }
+    {
+        match self {
+            Reply::Busy => TWO_63,
+            _ => 0,
+        }
+    }
+}
+
+// The same two as functions.
+pub fn number_of(reply: Reply) -> u64
+    ensures { result ≡ reply_number reply }
+{
+    reply.number()
+}
+
 pub fn value_of(reply: Reply) -> u64
     ensures { result ≡ reply_value reply }
 {
-    match reply {
-        Reply::Done => 0,
-        Reply::TooHigh => 0,
-        Reply::Nothing => 0,
-        Reply::Forbidden => 0,
-        Reply::Lines => 0,
-        Reply::NoWord => 0,
-        Reply::Off => 0,
-        Reply::Filtered => 0,
-        Reply::Lost => 0,
-        Reply::Wait => 0,
-        Reply::Busy => TWO_63,
-        Reply::Outside => 0,
-    }
+    reply.value()
 }

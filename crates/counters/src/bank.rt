@@ -5,7 +5,7 @@ ghost use Rattle.counters.specs.Due.{fired, signalled, ticked};
 
 use super::switches::{Kind, Switches};
 
-#[derive(Clone, Copy)]
+#[derive(Clone, Copy, PartialEq, Eq)]
 pub struct Bank {
     pub values: [u32; 16],
     pub shadows: [u32; 16],

@@ -3,7 +3,7 @@ ghost use Rattle.std.specs.Prelude.{◌≡◌};
 ghost use Rattle.counters.specs.Due.{disabling, divisor_of, due, due_mask, enabling, selecting, selection, slow_events, ticking, zero_switches};
 
 // The four kinds of events that a counter can count.
-#[derive(Clone, Copy)]
+#[derive(Clone, Copy, PartialEq, Eq)]
 pub enum Kind {
     Slow,
     External,
@@ -12,7 +12,7 @@ pub enum Kind {
 }
 
 // Eight bytes without padding, which the compiler keeps in one register: the phase is its top byte, since every operation tests it.
-#[derive(Clone, Copy)]
+#[derive(Clone, Copy, PartialEq, Eq)]
 pub struct Switches {
     pub enabled: u16,
     pub low: u16,

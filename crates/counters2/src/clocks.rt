@@ -3,7 +3,7 @@ ghost use Rattle.std.specs.Prelude.{◌≡◌};
 ghost use Rattle.counters2.specs.Clocks.{node_clocks, phase_after, selected, stamp_clocks};
 
 // No padding (16 bytes).
-#[derive(Clone, Copy)]
+#[derive(Clone, Copy, PartialEq, Eq)]
 pub struct Clocks {
     pub node: u32,
     pub tenth: u32,

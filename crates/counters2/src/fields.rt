@@ -3,7 +3,7 @@ ghost use Rattle.std.specs.Prelude.{◌≡◌, ◌<◌};
 ghost use Rattle.counters2.specs.Fields.{clocking, disabled, enabling, field_at, fresh_fields, holdable, kept, moding, none_zero, written_fields};
 
 // No padding (24 bytes).
-#[derive(Clone, Copy)]
+#[derive(Clone, Copy, PartialEq, Eq)]
 pub struct Fields {
     pub enable: u64,
     pub mode: u64,

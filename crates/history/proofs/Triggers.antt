@@ -15,8 +15,9 @@ use Rattle.queue.specs.Queue.{busy, full, held_sample, pushed}
 use Rattle.queue.specs.declared.queue.Held.{Held}
 use Rattle.queue.specs.declared.queue.Queue.{Queue}
 use Rattle.control.specs.Control.{header_of, waited}
-use Rattle.control.specs.Fate.{fate, is_off, is_filtered, is_lost, is_told, is_taken}
-use Rattle.control.specs.Fate.{Fate as Chip-as-Fate}
+use Rattle.control.specs.Fate.{fate}
+use Rattle.control.specs.declared.fate.Fate.TheVariants.{Off as is_off, Filtered as is_filtered, Lost as is_lost, Wait as is_told, Taken as is_taken}
+use Rattle.control.specs.declared.fate.Fate.{Fate as Chip-as-Fate}
 use Rattle.control.specs.declared.control.Control.{Control}
 use Rattle.control.specs.declared.reply.Reply.TheVariants.{Lines, Wait}
 use Rattle.control.proofs.HeaderLaws.{header_kind}

@@ -16,7 +16,7 @@ use Rattle.queue.specs.declared.queue.Held.{Held}
 use Rattle.queue.specs.declared.queue.Queue.{Queue}
 use Rattle.control.specs.Control.{header_of, waited}
 use Rattle.control.specs.Fate.{fate}
-use Rattle.control.specs.Fate.{Fate as Chip-as-Fate}
+use Rattle.control.specs.declared.fate.Fate.{Fate as Chip-as-Fate}
 use Rattle.control.specs.declared.control.Control.{Control}
 use Rattle.control.specs.declared.reply.Reply.TheVariants.{Lines, Wait}
 use Rattle.control.proofs.HeaderLaws.{header_kind}
