@@ -7,6 +7,7 @@ use native.Mathlib.Nat.{lt_of_lt_of_le}
 use native.Mathlib.Omega.{arith}
 use mathlib.Core.Path.{◌≡◌, refl, sym, ap, ap₂, ◌∙◌, subst}
 use mathlib.Core.Bool.{Bool, true, false, cond, not, ◌&&◌, false≢true}
+use Rattle.std.specs.Prelude.{None}
 use mathlib.Core.List.{List, [], ◌++◌, map, append-nil}
 use lib.Dec.{eqb, leb, ltb, lit<}
 use lib.ListN.{get_or, length, replicate, take, length-append, length-map, length-replicate, get_or-append, get_or-map}
@@ -18,7 +19,6 @@ use Rattle.samples.specs.Layout.{Widths, resource, sample_bytes, sample_length, 
 use Rattle.samples.specs.Write.{writable}
 use Rattle.samples.specs.Read.{Found, found_by, is_good, read_part, sample_of, verdict_number, wanted}
 use Rattle.samples.specs.declared.sample.Sample.{Sample}
-use Rattle.samples.specs.declared.reader.Verdict.TheVariants.{Good}
 use Rattle.samples.proofs.Numbers.{GoodBelow, Part, Reached, broken, broken_told, fault_numbers, fault_in, number_good, one_of_three, reads_0, reads_20, same_faults, same_wanted, unfinished, unfinished_told, whole, whole_told}
 use Rattle.samples.proofs.ReadLaws.{map_below}
 use Rattle.samples.proofs.RoundTrip.{bytes_back, sixteen_fit, word_passed}
@@ -116,7 +116,7 @@ module _ (w : Widths) (s : Sample) (fit : writable w s ≡ true) where
   abbrev words : List ℕ
   words = sample_words w s
 
-  written_read : read_part w words ≡ found_by Good s (sample_length w (resource s.header)) (sample_length w (resource s.header))
+  written_read : read_part w words ≡ found_by None s (sample_length w (resource s.header)) (sample_length w (resource s.header))
   written_read = ap (read_part w) (sym (append-nil words)) ∙ read_written w s [] fit
 
   pub written_whole : (wanted w words ≤ length words) × GoodBelow w words (wanted w words)

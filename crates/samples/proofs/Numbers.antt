@@ -8,6 +8,7 @@ use native.Mathlib.Omega.{arith}
 use mathlib.Core.Path.{◌≡◌, refl, sym, ap, ◌∙◌, subst}
 use mathlib.Core.Logic.{◌↔◌}
 use mathlib.Core.Bool.{Bool, true, false, cond, not, ◌&&◌, false≢true}
+use Rattle.std.specs.Prelude.{Result, Ok, Err, None, Some}
 use mathlib.Core.List.{List, [], ◌++◌, map}
 use lib.Dec.{eqb, leb, ltb}
 use lib.ListN.{drop, get_or, length, take, get_or-replicate}
@@ -15,13 +16,14 @@ use borrow.Author.Tests.{eq-eqb, eqb-false, eqb-true, ltb-false, ltb-true, ne_eq
 use Rattle.words.specs.Word.{byte_of, marked, odd_ones, too_large}
 use Rattle.samples.specs.Layout.{Widths, resource, sample_length}
 use Rattle.samples.specs.Write.{Row, row, writable, write_answer, written_row}
-use Rattle.samples.specs.Read.{Found, decided_at, fault_at, found, found_by, is_good, nothing, read_part, sample_of, scan, verdict_number, wanted}
+use Rattle.samples.specs.Read.{Found, Verdict, decided_at, fault_at, fault_number, found, found_by, is_good, nothing, read_part, sample_of, scan, verdict_number, wanted}
 use Rattle.samples.specs.declared.sample.Sample.{Sample}
 use Rattle.samples.specs.declared.reader.Reading.{Reading}
-use Rattle.samples.specs.declared.reader.Verdict.{Verdict}
-use Rattle.samples.specs.declared.reader.Verdict.TheVariants.{Good, Unfinished, TooLarge, Parity, Header, Mark}
-use Rattle.samples.specs.declared.writer.Written.{Written}
-use Rattle.samples.specs.declared.writer.Written.TheVariants.{Short, Unfit, Words}
+use Rattle.samples.specs.declared.reader.Fault.{Fault}
+use Rattle.samples.specs.declared.reader.Fault.TheVariants.{Unfinished, TooLarge, Parity, Header, Mark}
+use Rattle.samples.specs.declared.reader.Refusal.{Refusal}
+use Rattle.samples.specs.declared.writer.WriteError.{WriteError}
+use Rattle.samples.specs.declared.writer.WriteError.TheVariants.{Short, Unfit}
 use Rattle.samples.proofs.ReadLaws.{fault_by, scan_bad, scan_end, scan_last, scan_next}
 use Rattle.samples.proofs.Theorems.{accepted_count, accepted_place, accepted_words, accepted_writable, read_written}
 
@@ -50,16 +52,16 @@ module _ (w : Widths) (s : Sample) (room : ℕ) where
   writes_count = (written_tests (writable w s) (leb (sample_length w (resource s.header)) room) (sample_length w (resource s.header))).2
 
 -- two answers with equal rows are equal, so the writer's contract leaves one
-pub written_one : (a b : Written) → written_row a ≡ written_row b → a ≡ b
+pub written_one : (a b : Result ℕ WriteError) → written_row a ≡ written_row b → a ≡ b
 written_one a b e = sym (back a) ∙ ap of e ∙ back b
   where
-    of : Row → Written
-    of r = cond (eqb r.number 17) Unfit (cond (eqb r.number 18) Short (Words r.count))
+    of : Row → Result ℕ WriteError
+    of r = cond (eqb r.number 17) (Err Unfit) (cond (eqb r.number 18) (Err Short) (Ok r.count))
 
-    back : (a : Written) → of (written_row a) ≡ a
-    back (Words n) = refl
-    back Unfit = refl
-    back Short = refl
+    back : (a : Result ℕ WriteError) → of (written_row a) ≡ a
+    back (Ok n) = refl
+    back (Err Unfit) = refl
+    back (Err Short) = refl
 
 -- ---- the reader: number and place of the scan, and within a word the order 21, 22, 23, 24
 
@@ -68,33 +70,44 @@ unfolding read_part
 reads_scan w ws = go (scan (wanted w ws) 0 ws) (sample_of w (map byte_of ws)) (wanted w ws) (decided_at (wanted w ws) 0 ws)
   where
     go : (v : Verdict) (s : Sample) (n p : ℕ) → ((found_by v s n p).number ≡ verdict_number v) × ((found_by v s n p).place ≡ p)
-    go Good s n p = (refl, refl)
-    go Unfinished s n p = (refl, refl)
-    go TooLarge s n p = (refl, refl)
-    go Parity s n p = (refl, refl)
-    go Header s n p = (refl, refl)
-    go Mark s n p = (refl, refl)
+    go None s n p = (refl, refl)
+    go (Some f) s n p = (refl, refl)
 
 -- verdicts of one number are one
 pub verdict_one : (a b : Verdict) → verdict_number a ≡ verdict_number b → a ≡ b
 verdict_one a b e = sym (back a) ∙ ap of e ∙ back b
   where
     of : ℕ → Verdict
-    of n = cond (eqb n 0) Good (cond (eqb n 20) Unfinished (cond (eqb n 21) TooLarge (cond (eqb n 22) Parity (cond (eqb n 23) Header Mark))))
+    of n = cond (eqb n 0) None (Some (cond (eqb n 20) Unfinished (cond (eqb n 21) TooLarge (cond (eqb n 22) Parity (cond (eqb n 23) Header Mark)))))
 
     back : (v : Verdict) → of (verdict_number v) ≡ v
-    back Good = refl
-    back Unfinished = refl
-    back TooLarge = refl
-    back Parity = refl
-    back Header = refl
-    back Mark = refl
+    back None = refl
+    back (Some Unfinished) = refl
+    back (Some TooLarge) = refl
+    back (Some Parity) = refl
+    back (Some Header) = refl
+    back (Some Mark) = refl
+
+-- no fault has a sample's number
+fault_some : (f : Fault) → eqb (fault_number f) 0 ≡ false
+fault_some Unfinished = refl
+fault_some TooLarge = refl
+fault_some Parity = refl
+fault_some Header = refl
+fault_some Mark = refl
+
+-- and faults of one number are one
+pub fault_one : (a b : Fault) → fault_number a ≡ fault_number b → a ≡ b
+fault_one a b e = let same : ◌≡◌ {A = Verdict} (Some a) (Some b) = verdict_one (Some a) (Some b) e in cc
 
 -- so two readings that are told alike are equal, and the reader's contract leaves one
-pub reading_one : (a b : Reading) → found a ≡ found b → a ≡ b
-reading_one a b e =
-    let same : a.verdict ≡ b.verdict = verdict_one a.verdict b.verdict (ap (λ (f : Found). f.number) e) in
-    λ i. record { sample = (e i).sample; count = (e i).count; place = (e i).place; verdict = same i }
+pub reading_one : (a b : Result Reading Refusal) → found a ≡ found b → a ≡ b
+reading_one (Ok a) (Ok b) e = λ i. Ok (record { sample = (e i).sample; count = (e i).count })
+reading_one (Ok a) (Err b) e = absurd (eqb-false (fault_number b.fault) 0 (fault_some b.fault) (ap (λ (f : Found). f.number) (sym e)))
+reading_one (Err a) (Ok b) e = absurd (eqb-false (fault_number a.fault) 0 (fault_some a.fault) (ap (λ (f : Found). f.number) e))
+reading_one (Err a) (Err b) e =
+    let same : a.fault ≡ b.fault = fault_one a.fault b.fault (ap (λ (f : Found). f.number) e) in
+    λ i. Err (record { fault = same i; place = (e i).place })
 
 fault_tests : (large odd header last mark : Bool) → (eqb (verdict_number (fault_by large odd header last mark)) 20 ≡ false) × (eqb (verdict_number (fault_by large odd header last mark)) 21 ≡ large) × (eqb (verdict_number (fault_by large odd header last mark)) 22 ≡ (not large && not odd)) × (eqb (verdict_number (fault_by large odd header last mark)) 23 ≡ (not large && (odd && header))) × (eqb (verdict_number (fault_by large odd header last mark)) 24 ≡ (not large && (odd && (not header && cond last (not mark) mark)))) × (eqb (verdict_number (fault_by large odd header last mark)) 0 ≡ (not large && (odd && (not header && cond last mark (not mark)))))
 fault_tests true odd header last mark = (refl, refl, refl, refl, refl, refl)
@@ -127,12 +140,8 @@ unfolding read_part
 refused_nothing w ws e = go (scan (wanted w ws) 0 ws) (sample_of w (map byte_of ws)) (wanted w ws) (decided_at (wanted w ws) 0 ws) e
   where
     go : (v : Verdict) (s : Sample) (n p : ℕ) → eqb (found_by v s n p).number 0 ≡ false → found_by v s n p ≡ nothing (found_by v s n p).number (found_by v s n p).place
-    go Good s n p q = absurd (false≢true (sym q))
-    go Unfinished s n p q = refl
-    go TooLarge s n p q = refl
-    go Parity s n p q = refl
-    go Header s n p q = refl
-    go Mark s n p q = refl
+    go None s n p q = absurd (false≢true (sym q))
+    go (Some f) s n p q = refl
 
 -- so all is zero
 pub refused_zeros : (w : Widths) (ws : List ℕ) → eqb (read_part w ws).number 0 ≡ false → AllZeros (read_part w ws)
@@ -155,12 +164,12 @@ pub refused_numbers : (w : Widths) (ws : List ℕ) → eqb (read_part w ws).numb
 refused_numbers w ws e = subst (λ (n : ℕ). (20 ≤ n) × (n ≤ 24)) (sym (reads_scan w ws).0) (go (scan (wanted w ws) 0 ws) (ap (λ (n : ℕ). eqb n 0) (sym (reads_scan w ws).0) ∙ e))
   where
     go : (v : Verdict) → eqb (verdict_number v) 0 ≡ false → (20 ≤ verdict_number v) × (verdict_number v ≤ 24)
-    go Good q = absurd (false≢true (sym q))
-    go Unfinished q = (omega arith, omega arith)
-    go TooLarge q = (omega arith, omega arith)
-    go Parity q = (omega arith, omega arith)
-    go Header q = (omega arith, omega arith)
-    go Mark q = (omega arith, omega arith)
+    go None q = absurd (false≢true (sym q))
+    go (Some Unfinished) q = (omega arith, omega arith)
+    go (Some TooLarge) q = (omega arith, omega arith)
+    go (Some Parity) q = (omega arith, omega arith)
+    go (Some Header) q = (omega arith, omega arith)
+    go (Some Mark) q = (omega arith, omega arith)
 
 -- whatever the reader answers, the part has the words that it counts
 pub count_within : (w : Widths) (ws : List ℕ) → (read_part w ws).count ≤ length ws
@@ -219,7 +228,7 @@ module _ (w : Widths) (ws : List ℕ) where
   unfinished_told few good =
       let past = scan_past (length ws) (omega arith) few good in
       let end = scan_end (wanted w ws) (length ws) ws (omega arith) in
-      told Unfinished (length ws) (past.0 ∙ end.0) (past.1 ∙ end.1)
+      told (Some Unfinished) (length ws) (past.0 ∙ end.0) (past.1 ∙ end.1)
 
   -- as many good words as are wanted are a sample; the place is after them
   pub whole_told : wanted w ws ≤ length ws → GoodBelow w ws (wanted w ws) → ((read_part w ws).number ≡ 0) × ((read_part w ws).place ≡ wanted w ws)
@@ -227,7 +236,7 @@ module _ (w : Widths) (ws : List ℕ) where
       let p : ℕ = wanted w ws - 1 in
       let past = scan_past p (omega arith) (omega arith) (λ j h. good j (omega arith)) in
       let last = scan_last (wanted w ws) p ws (omega arith) (good p (omega arith)) (omega arith) in
-      told Good (wanted w ws) (past.0 ∙ last.0) (past.1 ∙ last.1)
+      told None (wanted w ws) (past.0 ∙ last.0) (past.1 ∙ last.1)
 
   -- the number alone
   pub first_bad_decides : (p : ℕ) → Reached w ws p → is_good (fault_in w ws p) ≡ false → (read_part w ws).number ≡ verdict_number (fault_in w ws p)
@@ -265,12 +274,8 @@ one_of_three w ws = parts w ws (length ws) 0 (zero-add (length ws)) (omega arith
 
 -- a verdict's number is 0 with a sample, and with nothing else
 pub number_good : (v : Verdict) → is_good v ≡ eqb (verdict_number v) 0
-number_good Good = refl
-number_good Unfinished = refl
-number_good TooLarge = refl
-number_good Parity = refl
-number_good Header = refl
-number_good Mark = refl
+number_good None = refl
+number_good (Some f) = sym (fault_some f)
 
 module _ (w : Widths) (ws : List ℕ) where
   -- 0, a sample: as many good words as are wanted

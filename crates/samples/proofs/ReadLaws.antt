@@ -5,6 +5,8 @@ use native.Mathlib.Nat.{mod-lt, zero-lt-suc, lt_of_lt_of_le, pow-le-pow_right, s
 use native.Mathlib.Omega.{arith}
 use mathlib.Core.Path.{◌≡◌, refl, sym, ap, ap₂, ◌∙◌}
 use mathlib.Core.Bool.{Bool, true, false, cond, not, ◌&&◌, false≢true}
+use Rattle.std.specs.Prelude.{None, Some, Err}
+use Rattle.samples.specs.declared.reader.Refusal.{Refusal}
 use mathlib.Core.List.{List, [], ◌∷◌, map}
 use lib.Dec.{eqb, leb, eqb-suc-zero}
 use lib.ListN.{length, get_or, take, drop, replicate, drop_of_length-le, length-take, get_or-map}
@@ -13,16 +15,15 @@ use borrow.Author.Tests.{eq-eqb, eqb-true, ne_eqb}
 use Rattle.words.specs.Bytes.{number}
 use Rattle.words.specs.Word.{too_large, odd_ones, marked, byte_of}
 use Rattle.words.proofs.ByteLaws.{number_below}
-use Rattle.samples.specs.Read.{decided_at, fault_at, found, found_by, gather, is_good, or_else, read_part, refusal, sample_of, scan, wanted}
+use Rattle.samples.specs.Read.{Verdict, decided_at, fault_at, found, found_by, gather, is_good, or_else, read_part, sample_of, scan, scanned, wanted}
 use Rattle.samples.specs.Layout.{Widths, counter_widths, field_widths, resource, total}
 use Rattle.samples.specs.declared.sample.Sample.{Sample}
-use Rattle.samples.specs.declared.reader.Verdict.{Verdict}
-use Rattle.samples.specs.declared.reader.Verdict.TheVariants.{Good, Unfinished, TooLarge, Parity, Header, Mark}
+use Rattle.samples.specs.declared.reader.Fault.TheVariants.{Unfinished, TooLarge, Parity, Header, Mark}
 
 -- a word's fault by what its tests say: too large, odd, a bad header, the last place, the mark
 abbrev pub fault_by : Bool → Bool → Bool → Bool → Bool → Verdict
 fault_by large odd header last mark =
-    cond large TooLarge (cond (not odd) Parity (cond header Header (cond last (cond mark Good Mark) (cond mark Mark Good))))
+    cond large (Some TooLarge) (cond (not odd) (Some Parity) (cond header (Some Header) (cond last (cond mark None (Some Mark)) (cond mark (Some Mark) None))))
 
 pub fault_by_lem : (n place w : ℕ) {large odd header last mark : Bool} → too_large w ≡ large → odd_ones w ≡ odd → (eqb place 0 && leb 32 (byte_of w)) ≡ header → eqb (suc place) n ≡ last → marked w ≡ mark → fault_at n place w ≡ fault_by large odd header last mark
 unfolding fault_at
@@ -37,9 +38,9 @@ pub fault_ends : (n place w : ℕ) {last : Bool} → eqb (suc place) n ≡ last 
 fault_ends n place w {last} e = fault_by_lem (cond last (suc place) 0) place w refl refl refl (ends last place) refl ∙ sym (fault_by_lem n place w refl refl refl e refl)
 
 -- one word of the scan: a good word leaves it to the rest, and a fault decides
-pub scan_word : (n i w : ℕ) (ws : List ℕ) {good : Bool} → is_good (fault_at n i w) ≡ good → scan n i (w ∷ ws) ≡ cond good (cond (eqb (suc i) n) Good (scan n (suc i) ws)) (fault_at n i w)
+pub scan_word : (n i w : ℕ) (ws : List ℕ) {good : Bool} → is_good (fault_at n i w) ≡ good → scan n i (w ∷ ws) ≡ cond good (cond (eqb (suc i) n) None (scan n (suc i) ws)) (fault_at n i w)
 unfolding scan
-scan_word n i w ws e = ap (λ (g : Bool). cond g (cond (eqb (suc i) n) Good (scan n (suc i) ws)) (fault_at n i w)) e
+scan_word n i w ws e = ap (λ (g : Bool). cond g (cond (eqb (suc i) n) None (scan n (suc i) ws)) (fault_at n i w)) e
 
 -- and of where it is decided
 pub decided_word : (n i w : ℕ) (ws : List ℕ) {good : Bool} → is_good (fault_at n i w) ≡ good → decided_at n i (w ∷ ws) ≡ cond good (cond (eqb (suc i) n) n (decided_at n (suc i) ws)) i
@@ -48,7 +49,7 @@ decided_word n i w ws e = ap (λ (g : Bool). cond g (cond (eqb (suc i) n) n (dec
 
 -- the same of the words from a place of a part on: what decides, and where
 module _ (n i : ℕ) (ws : List ℕ) (there : i < length ws) where
-  scan_here : {good : Bool} → is_good (fault_at n i (get_or ws i 0)) ≡ good → (scan n i (drop i ws) ≡ cond good (cond (eqb (suc i) n) Good (scan n (suc i) (drop (suc i) ws))) (fault_at n i (get_or ws i 0))) × (decided_at n i (drop i ws) ≡ cond good (cond (eqb (suc i) n) n (decided_at n (suc i) (drop (suc i) ws))) i)
+  scan_here : {good : Bool} → is_good (fault_at n i (get_or ws i 0)) ≡ good → (scan n i (drop i ws) ≡ cond good (cond (eqb (suc i) n) None (scan n (suc i) (drop (suc i) ws))) (fault_at n i (get_or ws i 0))) × (decided_at n i (drop i ws) ≡ cond good (cond (eqb (suc i) n) n (decided_at n (suc i) (drop (suc i) ws))) i)
   scan_here e =
       let here : drop i ws ≡ get_or ws i 0 ∷ drop (suc i) ws = drop-cons ws i 0 there in
       (ap (scan n i) here ∙ scan_word n i (get_or ws i 0) (drop (suc i) ws) e, ap (decided_at n i) here ∙ decided_word n i (get_or ws i 0) (drop (suc i) ws) e)
@@ -58,30 +59,26 @@ module _ (n i : ℕ) (ws : List ℕ) (there : i < length ws) where
   scan_bad bad = scan_here bad
 
   -- a good word is the last that is wanted, or leaves it to the words after it
-  scan_good : {last : Bool} → is_good (fault_at n i (get_or ws i 0)) ≡ true → eqb (suc i) n ≡ last → (scan n i (drop i ws) ≡ cond last Good (scan n (suc i) (drop (suc i) ws))) × (decided_at n i (drop i ws) ≡ cond last n (decided_at n (suc i) (drop (suc i) ws)))
+  scan_good : {last : Bool} → is_good (fault_at n i (get_or ws i 0)) ≡ true → eqb (suc i) n ≡ last → (scan n i (drop i ws) ≡ cond last None (scan n (suc i) (drop (suc i) ws))) × (decided_at n i (drop i ws) ≡ cond last n (decided_at n (suc i) (drop (suc i) ws)))
   scan_good good q =
-      ((scan_here good).0 ∙ ap (λ (t : Bool). cond t Good (scan n (suc i) (drop (suc i) ws))) q, (scan_here good).1 ∙ ap (λ (t : Bool). cond t n (decided_at n (suc i) (drop (suc i) ws))) q)
+      ((scan_here good).0 ∙ ap (λ (t : Bool). cond t None (scan n (suc i) (drop (suc i) ws))) q, (scan_here good).1 ∙ ap (λ (t : Bool). cond t n (decided_at n (suc i) (drop (suc i) ws))) q)
 
-  pub scan_last : is_good (fault_at n i (get_or ws i 0)) ≡ true → suc i ≡ n → (scan n i (drop i ws) ≡ Good) × (decided_at n i (drop i ws) ≡ n)
+  pub scan_last : is_good (fault_at n i (get_or ws i 0)) ≡ true → suc i ≡ n → (scan n i (drop i ws) ≡ None) × (decided_at n i (drop i ws) ≡ n)
   scan_last good last = scan_good good (eq-eqb (suc i) n last)
 
   pub scan_next : is_good (fault_at n i (get_or ws i 0)) ≡ true → (suc i ≡ n → ⊥) → (scan n i (drop i ws) ≡ scan n (suc i) (drop (suc i) ws)) × (decided_at n i (drop i ws) ≡ decided_at n (suc i) (drop (suc i) ws))
   scan_next good more = scan_good good (ne_eqb (suc i) n more)
 
 -- and past the part's end there is none
-pub scan_end : (n i : ℕ) (ws : List ℕ) → length ws ≤ i → (scan n i (drop i ws) ≡ Unfinished) × (decided_at n i (drop i ws) ≡ i)
+pub scan_end : (n i : ℕ) (ws : List ℕ) → length ws ≤ i → (scan n i (drop i ws) ≡ Some Unfinished) × (decided_at n i (drop i ws) ≡ i)
 unfolding scan decided_at
 scan_end n i ws past = (ap (scan n i) (drop_of_length-le ws past), ap (decided_at n i) (drop_of_length-le ws past))
 
 -- a good scan has a good first word, and goes on to a good scan unless that word was the last
-pub scan_first : (f : Verdict) (t : Bool) (rest : Verdict) → is_good (or_else f (cond t Good rest)) ≡ true → (is_good f ≡ true) × (t ≡ false → is_good rest ≡ true)
-scan_first Good true rest e = (refl, λ q. absurd (false≢true (sym q)))
-scan_first Good false rest e = (refl, λ q. e)
-scan_first Unfinished t rest e = absurd (false≢true e)
-scan_first TooLarge t rest e = absurd (false≢true e)
-scan_first Parity t rest e = absurd (false≢true e)
-scan_first Header t rest e = absurd (false≢true e)
-scan_first Mark t rest e = absurd (false≢true e)
+pub scan_first : (f : Verdict) (t : Bool) (rest : Verdict) → is_good (or_else f (cond t None rest)) ≡ true → (is_good f ≡ true) × (t ≡ false → is_good rest ≡ true)
+scan_first None true rest e = (refl, λ q. absurd (false≢true (sym q)))
+scan_first None false rest e = (refl, λ q. e)
+scan_first (Some f) t rest e = absurd (false≢true e)
 
 -- the bytes of words are bytes
 pub map_below : (ws : List ℕ) (i : ℕ) → get_or (map byte_of ws) i 0 < 256
@@ -109,13 +106,9 @@ drop_below zero bs h i = h i
 drop_below (suc k) [] h i = zero-lt-suc 255
 drop_below (suc k) (b ∷ bs) h i = drop_below k bs (λ j. h (suc j)) i
 
-pub is_good_lem : (a : Verdict) → is_good a ≡ true → a ≡ Good
-is_good_lem Good e = refl
-is_good_lem Unfinished e = absurd (false≢true e)
-is_good_lem TooLarge e = absurd (false≢true e)
-is_good_lem Parity e = absurd (false≢true e)
-is_good_lem Header e = absurd (false≢true e)
-is_good_lem Mark e = absurd (false≢true e)
+pub is_good_lem : (a : Verdict) → is_good a ≡ true → a ≡ None
+is_good_lem None e = refl
+is_good_lem (Some f) e = absurd (false≢true e)
 
 -- a good scan has seen all the words that were wanted, and is decided after them
 pub scan_whole : (n i : ℕ) (ws : List ℕ) → is_good (scan n i ws) ≡ true → (n ≤ i + length ws) × (decided_at n i ws ≡ n)
@@ -155,30 +148,23 @@ module _ (w : Widths) (bs : List ℕ) (t u : ℕ) (t-is : t ≡ w.stamp_bytes) (
 pub number_read : (k start : ℕ) (ws : List ℕ) (x : ℕ) → x ≡ number (take k (drop start (map byte_of ws))) → x < 256 ^ k
 number_read k start ws x e = rw e (number_take k (drop start (map byte_of ws)) (drop_below start (map byte_of ws) (map_below ws)))
 
--- a refusal has the numbers and values of its case, whatever a sample would have been
-refused_row : (v : Verdict) (s : Sample) (n p : ℕ) → is_good v ≡ false → found (refusal v p) ≡ found_by v s n p
-refused_row Good s n p e = absurd (false≢true (sym e))
-refused_row Unfinished s n p e = refl
-refused_row TooLarge s n p e = refl
-refused_row Parity s n p e = refl
-refused_row Header s n p e = refl
-refused_row Mark s n p e = refl
-
 -- the reader's answer, case by case
 module _ (w : Widths) (ws : List ℕ) where
-  pub read_good : (n : ℕ) (s : Sample) (p : ℕ) → n ≡ wanted w ws → is_good (scan n 0 ws) ≡ true → s ≡ sample_of w (map byte_of ws) → p ≡ decided_at n 0 ws → found_by Good s n p ≡ read_part w ws
+  pub read_good : (n : ℕ) (s : Sample) (p : ℕ) → n ≡ wanted w ws → is_good (scan n 0 ws) ≡ true → s ≡ sample_of w (map byte_of ws) → p ≡ decided_at n 0 ws → found_by None s n p ≡ read_part w ws
   unfolding read_part
   read_good n s p size good given place =
-      let whole : Good ≡ scan n 0 ws = sym (is_good_lem (scan n 0 ws) good) in
+      let whole : None ≡ scan n 0 ws = sym (is_good_lem (scan n 0 ws) good) in
       (λ i. found_by (whole i) (given i) n (place i)) ∙ ap (λ (k : ℕ). found_by (scan k 0 ws) (sample_of w (map byte_of ws)) k (decided_at k 0 ws)) size
 
-  pub read_bad : (n : ℕ) → n ≡ wanted w ws → is_good (scan n 0 ws) ≡ false → found (refusal (scan n 0 ws) (decided_at n 0 ws)) ≡ read_part w ws
+  pub read_bad : (n : ℕ) (r : Refusal) → n ≡ wanted w ws → Err r ≡ scanned (scan n 0 ws) (decided_at n 0 ws) → found (Err r) ≡ read_part w ws
   unfolding read_part
-  read_bad n size bad =
-      refused_row (scan n 0 ws) (sample_of w (map byte_of ws)) n (decided_at n 0 ws) bad
-      ∙ ap (λ (k : ℕ). found_by (scan k 0 ws) (sample_of w (map byte_of ws)) k (decided_at k 0 ws)) size
+  read_bad n r size bad = go (scan n 0 ws) bad ∙ ap (λ (k : ℕ). found_by (scan k 0 ws) (sample_of w (map byte_of ws)) k (decided_at k 0 ws)) size
+    where
+      go : (v : Verdict) → Err r ≡ scanned v (decided_at n 0 ws) → found (Err r) ≡ found_by v (sample_of w (map byte_of ws)) n (decided_at n 0 ws)
+      go None e = cc
+      go (Some f) e = cc
 
-pub read_empty : (w : Widths) (ws : List ℕ) → length ws ≡ 0 → found (refusal Unfinished 0) ≡ read_part w ws
+pub read_empty : (w : Widths) (ws : List ℕ) → length ws ≡ 0 → found (Err (record { fault = Unfinished; place = 0 })) ≡ read_part w ws
 unfolding read_part scan decided_at
 read_empty w [] e = refl
 read_empty w (x ∷ ws) e = absurd (suc-ne-zero _ e)

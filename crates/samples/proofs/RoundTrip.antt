@@ -5,6 +5,7 @@ use native.Mathlib.Nat.{add-zero}
 use native.Mathlib.Omega.{arith}
 use mathlib.Core.Path.{◌≡◌, refl, sym, ap, ap₂, ◌∙◌}
 use mathlib.Core.Bool.{Bool, true, false, cond, ◌&&◌, ◌||◌, false≢true}
+use Rattle.std.specs.Prelude.{None}
 use mathlib.Core.List.{List, [], ◌∷◌, ◌++◌, map, append_assoc, append-nil}
 use lib.Dec.{eqb, leb, ltb, eqb-suc-zero}
 use lib.ListN.{length, get_or, take, drop, replicate, length-drop}
@@ -17,19 +18,18 @@ use Rattle.samples.specs.Layout.{Widths, field_widths, counter_widths, counter_b
 use Rattle.samples.specs.Write.{within, all_zero, writable}
 use Rattle.samples.specs.Read.{fault_at, gather, is_good, sample_of, scan}
 use Rattle.samples.specs.declared.sample.Sample.{Sample}
-use Rattle.samples.specs.declared.reader.Verdict.TheVariants.{Good}
 use Rattle.samples.proofs.Gather.{gather_spread, spread_gather}
 use Rattle.samples.proofs.ReadLaws.{fault_by, fault_by_lem, drop_below, scan_first, scan_word}
 use Rattle.samples.proofs.SampleLaws.{fields_length}
 
 -- ---- the scan of written words
 
-same_mark : (e : Bool) → fault_by false true false e e ≡ Good
+same_mark : (e : Bool) → fault_by false true false e e ≡ None
 same_mark true = refl
 same_mark false = refl
 
 -- the word of a byte is good at a place where its mark belongs
-fault_word : (n i b : ℕ) (last : Bool) → b < 256 → (eqb i 0 && leb 32 b) ≡ false → eqb (suc i) n ≡ last → fault_at n i (word_of last b) ≡ Good
+fault_word : (n i b : ℕ) (last : Bool) → b < 256 → (eqb i 0 && leb 32 b) ≡ false → eqb (suc i) n ≡ last → fault_at n i (word_of last b) ≡ None
 fault_word n i b last h p q =
     fault_by_lem n i (word_of last b) (word_small last b h) (word_odd last b h)
     (ap (λ (x : ℕ). eqb i 0 && leb 32 x) (word_byte last b h) ∙ p)
@@ -40,16 +40,16 @@ fault_word n i b last h p q =
 after_first : (i b : ℕ) → (eqb (suc i) 0 && leb 32 b) ≡ false
 after_first i b = ap (λ (t : Bool). t && leb 32 b) (eqb-suc-zero i)
 
-pub scan_written : (n i b : ℕ) (bs rest : List ℕ) → ((j : ℕ) → get_or (b ∷ bs) j 0 < 256) → n ≡ suc (i + length bs) → (eqb i 0 && leb 32 b) ≡ false → scan n i (words_of (b ∷ bs) ++ rest) ≡ Good
+pub scan_written : (n i b : ℕ) (bs rest : List ℕ) → ((j : ℕ) → get_or (b ∷ bs) j 0 < 256) → n ≡ suc (i + length bs) → (eqb i 0 && leb 32 b) ≡ false → scan n i (words_of (b ∷ bs) ++ rest) ≡ None
 unfolding words_of
 scan_written n i b [] rest h e p =
     let last : eqb (suc i) n ≡ true = eq-eqb (suc i) n (omega arith) in
     scan_word n i (word_of true b) rest (ap is_good (fault_word n i b true (h zero) p last))
-    ∙ ap (λ (t : Bool). cond t Good (scan n (suc i) rest)) last
+    ∙ ap (λ (t : Bool). cond t None (scan n (suc i) rest)) last
 scan_written n i b (c ∷ bs) rest h e p =
     let other : eqb (suc i) n ≡ false = ne_eqb (suc i) n (λ q. omega arith) in
     scan_word n i (word_of false b) (words_of (c ∷ bs) ++ rest) (ap is_good (fault_word n i b false (h zero) p other))
-    ∙ ap (λ (t : Bool). cond t Good (scan n (suc i) (words_of (c ∷ bs) ++ rest))) other
+    ∙ ap (λ (t : Bool). cond t None (scan n (suc i) (words_of (c ∷ bs) ++ rest))) other
     ∙ scan_written n (suc i) c bs rest (λ j. h (suc j)) (omega arith) (after_first i c)
 
 -- ---- a good scan

@@ -5,6 +5,8 @@ use native.Mathlib.Nat.{add-sub_of_le, zero-add, mod-eq_of_lt, lt_trans, suc-ne-
 use native.Mathlib.Omega.{arith}
 use mathlib.Core.Path.{◌≡◌, refl, sym, ap, ap₂, ◌∙◌, subst}
 use mathlib.Core.Bool.{Bool, true, false, cond, ◌&&◌, ◌||◌, false≢true}
+use Rattle.std.specs.Prelude.{None, Some}
+use Rattle.samples.specs.declared.reader.Fault.TheVariants.{Unfinished, TooLarge, Parity, Header, Mark}
 use mathlib.Core.List.{List, [], ◌∷◌, ◌++◌, map, map-append}
 use lib.Dec.{eqb, leb, ltb, lit<}
 use lib.ListN.{length, get_or, take, drop, replicate, length-append, length-drop, length-map, get_or-append}
@@ -15,10 +17,8 @@ use Rattle.words.specs.Word.{words_of, is_last, byte_of}
 use Rattle.words.proofs.WordLaws.{words_bytes, word_byte}
 use Rattle.samples.specs.Layout.{Widths, field_widths, counter_widths, field_bytes, sample_bytes, sample_words, sample_length, resource, spread, total}
 use Rattle.samples.specs.Write.{Row, all_zero, row, within, writable, write_answer, write_buffer}
-use Rattle.samples.specs.Read.{Found, decided_at, found_by, gather, is_good, read_part, sample_of, scan, wanted}
+use Rattle.samples.specs.Read.{Found, Verdict, decided_at, found_by, gather, is_good, read_part, sample_of, scan, wanted}
 use Rattle.samples.specs.declared.sample.Sample.{Sample}
-use Rattle.samples.specs.declared.reader.Verdict.{Verdict}
-use Rattle.samples.specs.declared.reader.Verdict.TheVariants.{Good, Unfinished, TooLarge, Parity, Header, Mark}
 use Rattle.samples.proofs.Gather.{within_gather}
 use Rattle.samples.proofs.ReadLaws.{header_byte, map_below, drop_below, read_good, scan_whole}
 use Rattle.samples.proofs.RoundTrip.{bytes_back, first_passed, header_fit, sample_back, scan_words, scan_written, sixteen_fit}
@@ -34,7 +34,7 @@ unfolding sample_bytes field_bytes spread low_bytes rest_of
 header_first w s = refl
 
 -- 1. Reading what the writer wrote, with any words after it, gives the sample and its count back.
-pub read_written : (w : Widths) (s : Sample) (rest : List ℕ) → writable w s ≡ true → read_part w (sample_words w s ++ rest) ≡ found_by Good s (sample_length w (resource s.header)) (sample_length w (resource s.header))
+pub read_written : (w : Widths) (s : Sample) (rest : List ℕ) → writable w s ≡ true → read_part w (sample_words w s ++ rest) ≡ found_by None s (sample_length w (resource s.header)) (sample_length w (resource s.header))
 unfolding sample_words words_of
 read_written w s rest fit =
     let n : ℕ = sample_length w (resource s.header) in
@@ -111,14 +111,14 @@ module _ (w : Widths) (ws : List ℕ) (taken : (read_part w ws).number ≡ 0) wh
   accepted_scan = go (scan (wanted w ws) 0 ws) taken
     where
       go : (v : Verdict) → (found_by v (sample_of w (map byte_of ws)) (wanted w ws) (decided_at (wanted w ws) 0 ws)).number ≡ 0 → is_good v ≡ true
-      go Good t = refl
-      go Unfinished t = absurd (suc-ne-zero _ t)
-      go TooLarge t = absurd (suc-ne-zero _ t)
-      go Parity t = absurd (suc-ne-zero _ t)
-      go Header t = absurd (suc-ne-zero _ t)
-      go Mark t = absurd (suc-ne-zero _ t)
+      go None t = refl
+      go (Some Unfinished) t = absurd (suc-ne-zero _ t)
+      go (Some TooLarge) t = absurd (suc-ne-zero _ t)
+      go (Some Parity) t = absurd (suc-ne-zero _ t)
+      go (Some Header) t = absurd (suc-ne-zero _ t)
+      go (Some Mark) t = absurd (suc-ne-zero _ t)
 
-  accepted : read_part w ws ≡ found_by Good (sample_of w (map byte_of ws)) (wanted w ws) (wanted w ws)
+  accepted : read_part w ws ≡ found_by None (sample_of w (map byte_of ws)) (wanted w ws) (wanted w ws)
   accepted =
       sym (read_good w ws (wanted w ws) (sample_of w (map byte_of ws)) (wanted w ws) refl accepted_scan refl (sym (scan_whole (wanted w ws) 0 ws accepted_scan).1))
 

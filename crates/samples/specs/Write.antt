@@ -1,9 +1,9 @@
 -- Document 01, "Sample and words": the writer, its answers 17 and 18, and what it leaves in the buffer.
-use Rattle.std.specs.Prelude.{ℕ, ◌^◌, Bool, true, false, cond, ◌&&◌, ◌||◌, List, [], ◌∷◌, ◌++◌, ltb, leb, eqb, length, drop}
+use Rattle.std.specs.Prelude.{ℕ, ◌^◌, Bool, true, false, cond, ◌&&◌, ◌||◌, List, [], ◌∷◌, ◌++◌, ltb, leb, eqb, length, drop, Result, Ok, Err}
 use Rattle.samples.specs.Layout.{Widths, field_widths, counter_widths, resource, sample_length, sample_words}
 use Rattle.samples.specs.declared.sample.Sample.{Sample}
-use Rattle.samples.specs.declared.writer.Written.{Written}
-use Rattle.samples.specs.declared.writer.Written.TheVariants.{Words, Unfit, Short}
+use Rattle.samples.specs.declared.writer.WriteError.{WriteError}
+use Rattle.samples.specs.declared.writer.WriteError.TheVariants.{Unfit, Short}
 
 -- there is a number for each width, and each is within it
 unfoldable pub within : List ℕ → List ℕ → Bool
@@ -32,10 +32,10 @@ row number count = record { number = number; count = count }
 
 -- each case's: "returns how many"; "refuses, with 0 .., exactly for: 17 ..; then 18". The number of a written sample, which document 01
 -- leaves open, is 0
-abbrev pub written_row : Written → Row
-written_row (Words n) = row 0 n
-written_row Unfit = row 17 0
-written_row Short = row 18 0
+abbrev pub written_row : Result ℕ WriteError → Row
+written_row (Ok n) = row 0 n
+written_row (Err Unfit) = row 17 0
+written_row (Err Short) = row 18 0
 
 -- 17 before 18, else how many words
 unfoldable pub write_answer : Widths → Sample → ℕ → Row

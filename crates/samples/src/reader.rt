@@ -4,18 +4,16 @@ ghost use Rattle.words.specs.Bytes.{number};
 ghost use Rattle.words.specs.Table.{parity_table};
 ghost use Rattle.words.specs.Word.{byte_of};
 ghost use Rattle.samples.specs.Layout.{counter_widths, widths};
-ghost use Rattle.samples.specs.Read.{decided_at, fault_at, found, gather, is_good, read_part, refusal, sample_of, scan, verdict_number, wanted};
+ghost use Rattle.samples.specs.Read.{decided_at, fault_at, fault_number, found, gather, read_part, sample_of, scan, scanned, wanted};
 
 use super::edition::{Edition, stamp_bytes, trace_bytes, user_bytes};
 use super::sample::{Sample, is_resource, word_count};
 use words::parity::parities;
-use words::size::least;
 use words::word::{byte, marked, odd_ones_by, too_large};
 
-// What a reader finds of a word, or of the words of a part.
-#[derive(Clone, Copy)]
-pub enum Verdict {
-    Good,
+// What is wrong with a part: too few words, though all are good, or its first bad word.
+#[derive(Clone, Copy, PartialEq, Eq)]
+pub enum Fault {
     Unfinished,
     TooLarge,
     Parity,
@@ -23,129 +21,84 @@ pub enum Verdict {
     Mark,
 }
 
-// The first sample and how many words it took, zeros beside any verdict but Good; and how many good words stand before the decision: the
-// deciding word's place, all of an unfinished part, or the words of the sample.
+// The first sample, and how many words it took.
 #[derive(Clone, Copy)]
 pub struct Reading {
     pub sample: Sample,
     pub count: usize,
-    pub place: usize,
-    pub verdict: Verdict,
 }
 
-// What decides, and how many good words stand before it.
-#[derive(Clone, Copy)]
-struct Decision {
-    place: usize,
-    verdict: Verdict,
+// Why no sample was read, and how many good words stand before that: the bad word's place, or all of an unfinished part.
+#[derive(Clone, Copy, PartialEq, Eq)]
+pub struct Refusal {
+    pub fault: Fault,
+    pub place: usize,
 }
 
 // Reads the first sample of a part; what comes after it is not looked at.
-pub fn read(edition: Edition, part: &[u16]) -> Reading
+pub fn read(edition: Edition, part: &[u16]) -> Result<Reading, Refusal>
     ensures { found result ≡ read_part (widths edition) part.now }
 {
-    if part.len() == 0 {
-        return refused(Verdict::Unfinished, 0);
+    if part.is_empty() {
+        return Err(Refusal {
+            fault: Fault::Unfinished,
+            place: 0,
+        });
     }
     let count = word_count(edition, byte(part[0]) as u32);
-    let decision = scan(part, count);
-    let place = decision.place;
-    let verdict = decision.verdict;
-    if is_good(verdict) {
-        let sample = decode(edition, part);
-        return Reading {
-            sample,
-            count,
-            place,
-            verdict: Verdict::Good,
-        };
-    }
-    refused(verdict, place)
-}
-
-fn is_good(verdict: Verdict) -> bool
-    ensures { result ≡ is_good verdict }
-{
-    match verdict {
-        Verdict::Good => true,
-        Verdict::Unfinished => false,
-        Verdict::TooLarge => false,
-        Verdict::Parity => false,
-        Verdict::Header => false,
-        Verdict::Mark => false,
-    }
-}
-
-// Nothing read, why and where.
-fn refused(verdict: Verdict, place: usize) -> Reading
-    ensures { result ≡ refusal verdict place }
-{
-    Reading {
-        sample: Sample::zero(),
-        count: 0,
-        place,
-        verdict,
-    }
+    scan(part, count)?;
+    Ok(Reading {
+        sample: decode(edition, part),
+        count,
+    })
 }
 
 // The first bad word of a sample of `count` words decides.
-fn scan(part: &[u16], count: usize) -> Decision
+fn scan(part: &[u16], count: usize) -> Result<(), Refusal>
     requires { 0 < count }
-    ensures { (result.verdict ≡ scan count 0 part.now) × (result.place ≡ decided_at count 0 part.now) }
+    ensures { result ≡ scanned (scan count 0 part.now) (decided_at count 0 part.now) }
 {
     let table = parities();
     // The words before the last, as far as they are there.
-    let others = least(part.len(), count - 1);
-    let mut i = 0;
-    while i < others {
-        let fault = fault_at(&table, i, false, part[i]);
-        if !is_good(fault) {
-            return Decision {
-                place: i,
-                verdict: fault,
-            };
+    let others = part.len().min(count - 1);
+    for place in 0..others {
+        if let Some(fault) = fault_at(&table, place, false, part[place]) {
+            return Err(Refusal { fault, place });
         }
-        i += 1;
     }
-    if i == part.len() {
-        return Decision {
+    if others == part.len() {
+        return Err(Refusal {
+            fault: Fault::Unfinished,
             place: part.len(),
-            verdict: Verdict::Unfinished,
-        };
+        });
     }
-    let fault = fault_at(&table, i, true, part[i]);
-    if is_good(fault) {
-        return Decision {
-            place: count,
-            verdict: Verdict::Good,
-        };
-    }
-    Decision {
-        place: i,
-        verdict: fault,
+    match fault_at(&table, others, true, part[others]) {
+        Some(fault) => Err(Refusal {
+            fault,
+            place: others,
+        }),
+        None => Ok(()),
     }
 }
 
 // What is wrong with the word at a place of a sample that ends with it, or that doesn't, by the table of parity bits.
-fn fault_at(table: &[u8], place: usize, last: bool, word: u16) -> Verdict
+fn fault_at(table: &[u8], place: usize, last: bool, word: u16) -> Option<Fault>
     requires { table.now ≡ parity_table }
     ensures { result ≡ fault_at (cond last (suc place) 0) place word }
 {
     if too_large(word) {
-        return Verdict::TooLarge;
+        return Some(Fault::TooLarge);
     }
     if !odd_ones_by(table, word) {
-        return Verdict::Parity;
+        return Some(Fault::Parity);
     }
     if bad_header(place, word) {
-        return Verdict::Header;
+        return Some(Fault::Header);
     }
-    let mark = marked(word);
-    if last {
-        if mark { Verdict::Good } else { Verdict::Mark }
-    } else {
-        if mark { Verdict::Mark } else { Verdict::Good }
+    if marked(word) != last {
+        return Some(Fault::Mark);
     }
+    None
 }
 
 // Whether the word is a sample's first and has header bits 5 to 7 set.
@@ -211,16 +164,15 @@ fn number_at(part: &[u16], start: usize, size: usize) -> u64
     sum
 }
 
-// The number of a verdict: document 01's 20 to 24, and 0 for a sample.
-pub fn verdict_number(verdict: Verdict) -> u64
-    ensures { result ≡ verdict_number verdict }
+// The number of a fault: document 01's 20 to 24.
+pub fn fault_number(fault: Fault) -> u64
+    ensures { result ≡ fault_number fault }
 {
-    match verdict {
-        Verdict::Good => 0,
-        Verdict::Unfinished => 20,
-        Verdict::TooLarge => 21,
-        Verdict::Parity => 22,
-        Verdict::Header => 23,
-        Verdict::Mark => 24,
+    match fault {
+        Fault::Unfinished => 20,
+        Fault::TooLarge => 21,
+        Fault::Parity => 22,
+        Fault::Header => 23,
+        Fault::Mark => 24,
     }
 }

@@ -19,33 +19,31 @@ const TWO_48: u64 = 1 << 48;
 
 const TWO_56: u64 = 1 << 56;
 
-// What writing a sample answers.
-#[derive(Clone, Copy)]
-pub enum Written {
-    // How many words were written.
-    Words(usize),
+// Why a sample is not written.
+#[derive(Clone, Copy, PartialEq, Eq)]
+pub enum WriteError {
     // A field above its width, header bits 5 to 7 set, or a Trace sample whose counters aren't all zero.
     Unfit,
     // A buffer too short.
     Short,
 }
 
-// Puts a sample's words at the buffer's start and leaves the rest; a refusal leaves it all.
-pub fn write(edition: Edition, sample: Sample, out: &mut [u16]) -> Written
+// Puts a sample's words at the buffer's start, leaves the rest, and says how many they are; a refusal leaves the whole buffer.
+pub fn write(edition: Edition, sample: Sample, out: &mut [u16]) -> Result<usize, WriteError>
     ensures result_value { written_row result ≡ write_answer (widths edition) sample (length out.old) }
     ensures out_after { out.new ≡ write_buffer (widths edition) sample out.old }
 {
     // Taken out first: building it and looking at the sample go on side by side.
     let table = parities();
-    if can_write(edition, sample) {
-        let count = word_count(edition, sample.header);
-        if count <= out.len() {
-            fill(&table, edition, sample, count, out);
-            return Written::Words(count);
-        }
-        return Written::Short;
+    if !can_write(edition, sample) {
+        return Err(WriteError::Unfit);
     }
-    Written::Unfit
+    let count = word_count(edition, sample.header);
+    if out.len() < count {
+        return Err(WriteError::Short);
+    }
+    fill(&table, edition, sample, count, out);
+    Ok(count)
 }
 
 // Whether each field is within its width, header bits 5 to 7 are clear, and a Trace sample has no counters.
@@ -170,23 +168,19 @@ fn put_number(table: &[u8], number: u64, size: usize, out: &mut [u16], at: usize
 }
 
 // The number of an answer: document 01's 17 and 18, and 0 for a written sample.
-pub fn written_number(answer: Written) -> u64
+pub fn written_number(answer: Result<usize, WriteError>) -> u64
     ensures { result ≡ (written_row answer).number }
 {
     match answer {
-        Written::Words(_) => 0,
-        Written::Unfit => 17,
-        Written::Short => 18,
+        Ok(_) => 0,
+        Err(WriteError::Unfit) => 17,
+        Err(WriteError::Short) => 18,
     }
 }
 
 // How many words an answer says were written; none with a refusal.
-pub fn written_count(answer: Written) -> usize
+pub fn written_count(answer: Result<usize, WriteError>) -> usize
     ensures { result ≡ (written_row answer).count }
 {
-    match answer {
-        Written::Words(count) => count,
-        Written::Unfit => 0,
-        Written::Short => 0,
-    }
+    answer.unwrap_or(0)
 }
