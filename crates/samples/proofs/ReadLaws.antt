@@ -4,8 +4,8 @@ use Prim.Native.Nat.{ℕ, zero, suc, ◌+◌, ◌*◌, ◌^◌, ◌≤◌, ◌<�
 use native.Mathlib.Nat.{mod-lt, zero-lt-suc, lt_of_lt_of_le, pow-le-pow_right, suc-ne-zero}
 use native.Mathlib.Omega.{arith}
 use mathlib.Core.Path.{◌≡◌, refl, sym, ap, ap₂, ◌∙◌}
-use mathlib.Core.Bool.{Bool, true, false, cond, not, ◌&&◌, false≢true}
-use Rattle.std.specs.Prelude.{None, Some, Err}
+use mathlib.Core.Bool.{Bool, true, false, beq, cond, not, ◌&&◌, false≢true}
+use Rattle.std.specs.Prelude.{None, Some, Ok, Err}
 use Rattle.samples.specs.declared.reader.Refusal.{Refusal}
 use mathlib.Core.List.{List, [], ◌∷◌, map}
 use lib.Dec.{eqb, leb, eqb-suc-zero}
@@ -34,6 +34,17 @@ pub ends : (last : Bool) (place : ℕ) → eqb (suc place) (cond last (suc place
 ends true place = eq-eqb (suc place) (suc place) refl
 ends false place = eqb-suc-zero place
 
+-- its fault by the tests of a word that is the last, or isn't
+pub fault_told : (last : Bool) (place w : ℕ) {large odd header mark : Bool} → large ≡ too_large w → odd ≡ odd_ones w → header ≡ (eqb place 0 && leb 32 (byte_of w)) → mark ≡ marked w → fault_by large odd header last mark ≡ fault_at (cond last (suc place) 0) place w
+fault_told last place w a b c d = sym (fault_by_lem (cond last (suc place) 0) place w (sym a) (sym b) (sym c) (ends last place) (sym d))
+
+-- a mark is wrong where it is not that of the place
+pub fault_marked : (last mark : Bool) {wrong : Bool} → not (beq mark last) ≡ wrong → fault_by false true false last mark ≡ cond wrong (Some Mark) None
+fault_marked true true e = ap (λ (b : Bool). cond b (Some Mark) None) e
+fault_marked true false e = ap (λ (b : Bool). cond b (Some Mark) None) e
+fault_marked false true e = ap (λ (b : Bool). cond b (Some Mark) None) e
+fault_marked false false e = ap (λ (b : Bool). cond b (Some Mark) None) e
+
 pub fault_ends : (n place w : ℕ) {last : Bool} → eqb (suc place) n ≡ last → fault_at (cond last (suc place) 0) place w ≡ fault_at n place w
 fault_ends n place w {last} e = fault_by_lem (cond last (suc place) 0) place w refl refl refl (ends last place) refl ∙ sym (fault_by_lem n place w refl refl refl e refl)
 
@@ -59,7 +70,7 @@ module _ (n i : ℕ) (ws : List ℕ) (there : i < length ws) where
   scan_bad bad = scan_here bad
 
   -- a good word is the last that is wanted, or leaves it to the words after it
-  scan_good : {last : Bool} → is_good (fault_at n i (get_or ws i 0)) ≡ true → eqb (suc i) n ≡ last → (scan n i (drop i ws) ≡ cond last None (scan n (suc i) (drop (suc i) ws))) × (decided_at n i (drop i ws) ≡ cond last n (decided_at n (suc i) (drop (suc i) ws)))
+  pub scan_good : {last : Bool} → is_good (fault_at n i (get_or ws i 0)) ≡ true → eqb (suc i) n ≡ last → (scan n i (drop i ws) ≡ cond last None (scan n (suc i) (drop (suc i) ws))) × (decided_at n i (drop i ws) ≡ cond last n (decided_at n (suc i) (drop (suc i) ws)))
   scan_good good q =
       ((scan_here good).0 ∙ ap (λ (t : Bool). cond t None (scan n (suc i) (drop (suc i) ws))) q, (scan_here good).1 ∙ ap (λ (t : Bool). cond t n (decided_at n (suc i) (drop (suc i) ws))) q)
 
@@ -73,6 +84,10 @@ module _ (n i : ℕ) (ws : List ℕ) (there : i < length ws) where
 pub scan_end : (n i : ℕ) (ws : List ℕ) → length ws ≤ i → (scan n i (drop i ws) ≡ Some Unfinished) × (decided_at n i (drop i ws) ≡ i)
 unfolding scan decided_at
 scan_end n i ws past = (ap (scan n i) (drop_of_length-le ws past), ap (decided_at n i) (drop_of_length-le ws past))
+
+-- the words before a place are good, so those from it on decide
+abbrev pub Past : ℕ → ℕ → List ℕ → Type 0
+Past n i ws = (scan n 0 ws ≡ scan n i (drop i ws)) × (decided_at n 0 ws ≡ decided_at n i (drop i ws))
 
 -- a good scan has a good first word, and goes on to a good scan unless that word was the last
 pub scan_first : (f : Verdict) (t : Bool) (rest : Verdict) → is_good (or_else f (cond t None rest)) ≡ true → (is_good f ≡ true) × (t ≡ false → is_good rest ≡ true)
@@ -147,6 +162,11 @@ module _ (w : Widths) (bs : List ℕ) (t u : ℕ) (t-is : t ≡ w.stamp_bytes) (
 -- a number read from k words is below 256 ^ k
 pub number_read : (k start : ℕ) (ws : List ℕ) (x : ℕ) → x ≡ number (take k (drop start (map byte_of ws))) → x < 256 ^ k
 number_read k start ws x e = rw e (number_take k (drop start (map byte_of ws)) (drop_below start (map byte_of ws) (map_below ws)))
+
+-- a scan that went well is a good one
+pub scanned_good : (v : Verdict) (p : ℕ) → Ok tt ≡ scanned v p → is_good v ≡ true
+scanned_good None p e = refl
+scanned_good (Some f) p e = cc
 
 -- the reader's answer, case by case
 module _ (w : Widths) (ws : List ℕ) where

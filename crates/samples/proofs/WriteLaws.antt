@@ -6,16 +6,17 @@ use mathlib.Core.Bool.{Bool, true, false, ◌&&◌, ◌||◌, and-false}
 use mathlib.Core.List.{List, [], ◌∷◌, ◌++◌}
 use lib.Dec.{eqb, ltb, lit<}
 use lib.ListN.{length, get_or, drop, replicate}
-use lib.Seq.{drop-cons}
 use borrow.Author.Tests.{lt-ltb, le-ltb, le-leb, lt-leb}
+use Rattle.std.specs.List.{list_all}
 use Rattle.samples.specs.Layout.{Widths, counter_widths, field_widths, resource, sample_length, sample_words}
 use Rattle.samples.specs.Write.{all_zero, row, within, writable, write_answer, write_buffer}
 use Rattle.samples.specs.declared.sample.Sample.{Sample}
 
--- what is left from a place on has its first number there
-pub zero_step : (xs : List ℕ) (i : ℕ) → i < length xs → all_zero (drop i xs) ≡ eqb (get_or xs i 0) 0 && all_zero (drop (suc i) xs)
+-- asking each number is what the definition does
+pub zero_all : (xs : List ℕ) → list_all (λ (x : ℕ). eqb x 0) xs ≡ all_zero xs
 unfolding all_zero
-zero_step xs i h = ap all_zero (drop-cons xs i 0 h)
+zero_all [] = refl
+zero_all (x ∷ xs) = ap (λ (b : Bool). eqb x 0 && b) (zero_all xs)
 
 -- numbers of one width
 pub within_each : (n k : ℕ) (xs : List ℕ) → length xs ≡ k → ((i : ℕ) → get_or xs i 0 < 256 ^ n) → within (replicate k n) xs ≡ true

@@ -89,14 +89,7 @@ fn user_above(edition: Edition, user: u64) -> bool
 fn all_zero(counters: [u32; 16]) -> bool
     ensures { result ≡ all_zero counters }
 {
-    let mut i = 0;
-    while i < 16 {
-        if counters[i] != 0 {
-            return false;
-        }
-        i += 1;
-    }
-    true
+    counters.iter().all(|counter| *counter == 0)
 }
 
 // The sample's words, from the buffer's start: every byte's, and then the end mark on the last.
