@@ -98,7 +98,7 @@ VERSIONS = {
             ('crates/queue/specs/Table.antt', 'Prelude.{ℕ, cond, ', 'Prelude.{ℕ, ◌%◌, cond, '),
             ('crates/queue/proofs/TableLaws.antt', 'get_or ws q.sent 0', 'get_or ws (q.sent % 1) 0'),
             ('crates/queue/proofs/TableLaws.antt', 'first) q.sent', 'first) (q.sent % 1)', 2),
-            ('crates/queue/proofs/QueueLaws.antt', 'use Prim.Native.Nat.{ℕ, zero, suc, ◌≤◌, ◌<◌, min}', 'use Prim.Native.Nat.{ℕ, zero, suc, ◌%◌, ◌≤◌, ◌<◌, min}\nuse native.Mathlib.Omega.{arith}'),
+            ('crates/queue/proofs/QueueLaws.antt', 'use Prim.Native.Nat.{ℕ, suc, ◌<◌}', 'use Prim.Native.Nat.{ℕ, suc, ◌%◌, ◌≤◌, ◌<◌}\nuse native.Mathlib.Omega.{arith}'),
             ('crates/queue/proofs/QueueLaws.antt', 'sixteen) q.sent h) ∙ e)', 'sixteen) (q.sent % 1) (omega arith)) ∙ e)'),
             ('crates/queue/proofs/queue/Queue/next_word/Answers.antt', 'use native.Mathlib.Omega.{arith}', 'use Prim.Native.Nat.{◌%◌}\nuse native.Mathlib.Omega.{arith}'),
             ('crates/queue/proofs/queue/Queue/next_word/Answers.antt', '(add-one a.self.sent)', '(add-one (a.self.sent % 1))'),
@@ -122,11 +122,8 @@ VERSIONS = {
         ], ['chip', 'marked'], [('history', 'send_kept')]),
     'first_sample_only': (
         'the first trigger is honoured, the later ones are only answered "taken"', [
-            ('crates/queue/src/queue.rt', 'if held < 8 {', 'if held < 1 {'),
+            ('crates/queue/src/queue.rt', 'if self.held < 8 {', 'if self.held < 1 {'),
             ('crates/queue/specs/Queue.antt', 'pushed h q = cond (ltb q.held 8)', 'pushed h q = cond (ltb q.held 1)'),
-            ('crates/queue/proofs/queue/Queue/pushed/Answers.antt', 'rw (lt-ltb c.args.self.held 8', 'rw (lt-ltb c.args.self.held 1'),
-            ('crates/queue/proofs/queue/Queue/pushed/Answers.antt', 'rw (le-ltb c.args.self.held 8', 'rw (le-ltb c.args.self.held 1'),
-            ('crates/queue/proofs/queue/Queue/pushed/Answers.antt', 'held-lt8', 'held-lt1', 6),
             ('crates/queue/proofs/BoundLaws.antt', 'push_bounds h q e = go (ltb q.held 8) refl', 'push_bounds h q e = go (ltb q.held 1) refl'),
             ('crates/queue/proofs/BoundLaws.antt', 'go : (b : Bool) → ltb q.held 8 ≡ b → inside_queue w (cond b more q)', 'go : (b : Bool) → ltb q.held 1 ≡ b → inside_queue w (cond b more q)'),
             ('crates/queue/proofs/BoundLaws.antt', 'few = omega (arith, ltb-true q.held 8 t)', 'few = omega (arith, ltb-true q.held 1 t)'),
@@ -261,8 +258,6 @@ VERSIONS = {
             ('crates/queue/proofs/BoundLaws.antt', 'pub few : q.held ≤ 8', 'pub few : q.held ≤ 9'),
             ('crates/queue/proofs/BoundLaws.antt', 'leb q.held 8', 'leb q.held 9', 3),
             ('crates/queue/proofs/BoundLaws.antt', 'leb-true q.held 8', 'leb-true q.held 9', 2),
-            ('crates/queue/proofs/queue/Queue/inside/Answers.antt', 'self.held 8', 'self.held 9', 3),
-            ('crates/queue/proofs/queue/Queue/inside/Answers.antt', 'self-gt8', 'self-gt9', 3),
         ], ['queue'], [('chip', 'inside_bounded')]),
     'even_parity': (
         'bits 0 to 8 have an even number of ones, in table, writer and reader alike', [

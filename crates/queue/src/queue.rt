@@ -4,14 +4,14 @@ ghost use Rattle.queue.specs.Queue.{advanced, any_resource, busy, empty_queue, f
 ghost use Rattle.queue.specs.Table.{next_word_by, send_one_by};
 ghost use Rattle.samples.specs.Layout.{resource, sample_bytes, sample_length, widths};
 
+use super::places::stored;
 use samples::edition::{Edition, trace_bytes};
 use samples::sample::{counter_byte, field_byte, is_resource, word_count};
 use words::parity::parities;
-use words::size::least;
 use words::word::word_by;
 
 // A held sample, but for a Resource sample's counters: no padding (24 bytes).
-#[derive(Clone, Copy)]
+#[derive(Clone, Copy, PartialEq, Eq)]
 pub struct Held {
     pub user: u64,
     pub stamp: u64,
@@ -20,7 +20,7 @@ pub struct Held {
 }
 
 // The places, how many hold a sample, and how many words of the first one are sent.
-#[derive(Clone, Copy)]
+#[derive(Clone, Copy, PartialEq, Eq)]
 pub struct Queue {
     pub places: [Held; 8],
     pub held: usize,
@@ -41,24 +41,20 @@ pub struct SentMany {
     pub count: u64,
 }
 
-fn no_sample() -> Held
-    ensures { result ≡ zero_held }
-{
-    Held {
-        user: 0,
-        stamp: 0,
-        source: 0,
-        header: 0,
-    }
-}
+// What stands in a place that is free.
+const NO_SAMPLE: Held = Held {
+    user: 0,
+    stamp: 0,
+    source: 0,
+    header: 0,
+};
 
 impl Queue {
     pub fn empty() -> Queue
         ensures { result ≡ empty_queue }
     {
-        let none = no_sample();
         Queue {
-            places: [none; 8],
+            places: [NO_SAMPLE; 8],
             held: 0,
             sent: 0,
         }
@@ -75,9 +71,14 @@ impl Queue {
     pub fn busy(self) -> bool
         ensures { result ≡ busy self }
     {
-        let places = self.places;
-        let held = self.held;
-        any_resource(places, held)
+        // By places, not by a slice's iterator, for which the compiler copies the record (docs/PERFORMANCE.md).
+        let held = self.held.min(8);
+        for i in 0..held {
+            if is_resource(self.places[i].header) {
+                return true;
+            }
+        }
+        false
     }
 
     // Whether the counts are ones that an operation can leave: at most eight held, fewer words of the first sent than it has, and none
@@ -98,20 +99,16 @@ impl Queue {
     fn first_count(self, edition: Edition) -> usize
         ensures { result ≡ first_count (widths edition) self }
     {
-        let first = self.places[0];
-        word_count(edition, first.header)
+        word_count(edition, self.places[0].header)
     }
 
     // The queue with one more sample, if there is a place.
     pub fn pushed(mut self, sample: Held) -> Queue
         ensures { result ≡ pushed sample self }
     {
-        let held = self.held;
-        if held < 8 {
-            let places = self.places;
-            let next = stored(places, held, sample);
-            self.places = next;
-            self.held = held + 1;
+        if self.held < 8 {
+            self.places = stored(self.places, self.held, sample);
+            self.held += 1;
         }
         self
     }
@@ -148,8 +145,7 @@ impl Queue {
     {
         let table = parities();
         let mut queue = self;
-        let mut i = 0;
-        while i < out.len() {
+        for i in 0..out.len() {
             if queue.held == 0 {
                 return SentMany {
                     queue,
@@ -157,13 +153,11 @@ impl Queue {
                 };
             }
             out[i] = queue.next_word(&table, edition, shadows);
-            let next = queue.advanced(edition);
-            queue = next;
-            i += 1;
+            queue = queue.advanced(edition);
         }
         SentMany {
             queue,
-            count: i as u64,
+            count: out.len() as u64,
         }
     }
 
@@ -189,62 +183,23 @@ impl Queue {
         ensures { result ≡ advanced (widths edition) self }
     {
         let count = self.first_count(edition);
-        let sent = self.sent;
-        if sent < count - 1 {
-            self.sent = sent + 1;
+        if self.sent < count - 1 {
+            self.sent += 1;
             return self;
         }
         self.shifted()
     }
 
     // The others move down, and the last place is empty.
-    fn shifted(self) -> Queue
+    fn shifted(mut self) -> Queue
         ensures { result ≡ shifted self }
     {
-        let p = self.places;
-        let a = p[1];
-        let b = p[2];
-        let c = p[3];
-        let d = p[4];
-        let e = p[5];
-        let f = p[6];
-        let g = p[7];
-        let none = no_sample();
-        let places = [a, b, c, d, e, f, g, none];
-        Queue {
-            places,
-            held: one_less(self.held),
-            sent: 0,
-        }
+        self.places.rotate_left(1);
+        self.places[7] = NO_SAMPLE;
+        self.held = self.held.saturating_sub(1);
+        self.sent = 0;
+        self
     }
-}
-
-// The places with a sample stored at one of them. Every place is visited, so that the compiler keeps each by itself.
-fn stored(mut places: [Held; 8], at: usize, sample: Held) -> [Held; 8]
-    ensures { result ≡ set places at sample }
-{
-    let mut i = 0;
-    while i < 8 {
-        let old = places[i];
-        places[i] = chosen(old, i == at, sample);
-        i += 1;
-    }
-    places
-}
-
-fn chosen(old: Held, yes: bool, new: Held) -> Held
-    ensures { result ≡ cond yes new old }
-{
-    if yes {
-        return new;
-    }
-    old
-}
-
-fn one_less(n: usize) -> usize
-    ensures { result ≡ n - 1 }
-{
-    if n == 0 { 0 } else { n - 1 }
 }
 
 // The byte at a place of a held sample.
@@ -257,20 +212,4 @@ fn held_byte(edition: Edition, h: Held, shadows: [u32; 16], place: usize) -> u8
         return field_byte(edition, h.header, h.source, h.stamp, h.user, place);
     }
     counter_byte(shadows, place - first_counter)
-}
-
-// Whether one of the first `held` places has a Resource sample.
-fn any_resource(places: [Held; 8], held: usize) -> bool
-    ensures { result ≡ any_resource (take held places) }
-{
-    let end = least(held, 8);
-    let mut i = 0;
-    while i < end {
-        let h = places[i];
-        if is_resource(h.header) {
-            return true;
-        }
-        i += 1;
-    }
-    false
 }
