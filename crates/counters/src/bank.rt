@@ -1,5 +1,5 @@
 // The sixteen counters and their shadows.
-ghost use Rattle.std.specs.Prelude.{◌≡◌, if◌then◌else◌, nat_eq, slice_index};
+ghost use Rattle.std.specs.Prelude.{◌≡◌, ℕ, ◌<◌, if◌then◌else◌, nat_eq, slice_index};
 ghost use Rattle.counters.specs.Bank.{bit, cleared, copied, counting, each, grown, zero_bank};
 ghost use Rattle.counters.specs.Due.{fired, signalled, ticked};
 
@@ -50,9 +50,13 @@ impl Bank {
     fn counted(mut self, mask: u16, times: u32) -> Bank
         ensures { result ≡ counting (bit mask) times self }
     {
-        let values = self.values;
-        let next = grown_values(values, mask, times);
-        self.values = next;
+        self.values = each_value(self.values, |i, v| {
+            if (mask >> i) % 2 == 1 {
+                v.wrapping_add(times)
+            } else {
+                v
+            }
+        });
         self
     }
 
@@ -61,8 +65,7 @@ impl Bank {
         ensures { result ≡ counting (λ j. nat_eq j index) 1 self }
     {
         if index < 16 {
-            let value = self.values[index];
-            self.values[index] = std::num::wrapping_add_u32(value, 1);
+            self.values[index] = self.values[index].wrapping_add(1);
         }
         self
     }
@@ -71,9 +74,9 @@ impl Bank {
     pub fn cleared(mut self, mask: u16) -> Bank
         ensures { result ≡ cleared mask self }
     {
-        let values = self.values;
-        let next = cleared_values(values, mask);
-        self.values = next;
+        self.values = each_value(self.values, |i, v| {
+            if (mask >> i) % 2 == 1 { 0 } else { v }
+        });
         self
     }
 
@@ -94,33 +97,19 @@ impl Bank {
     }
 }
 
-// The counters of the mask grow by `times`, and wrap.
-fn grown_values(mut values: [u32; 16], mask: u16, times: u32) -> [u32; 16]
-    ensures { result ≡ each (λ i v. (if bit mask i then grown v times else v)) 0 values }
+// Each of sixteen numbers becomes what `f` makes of its place and itself.
+pub fn each_value<F: Fn(usize, u32) -> u32>(mut values: [u32; 16], f: F) -> [u32; 16]
+    requires { (i v : ℕ) → i < 16 → F.pre f i v }
+    ensures { (g : ℕ → ℕ → ℕ) → ((i v r : ℕ) → i < 16 → F.post f i v r → r ≡ g i v) → result ≡ each g 0 values }
 {
-    let mut i = 0;
-    while i < 16 {
-        let grown = std::num::wrapping_add_u32(values[i], times);
-        values[i] = chosen(values[i], (mask >> i) % 2 == 1, grown);
-        i += 1;
+    for i in 0..16 {
+        values[i] = f(i, values[i]);
     }
     values
 }
 
-// The counters of the mask become zero.
-fn cleared_values(mut values: [u32; 16], mask: u16) -> [u32; 16]
-    ensures { result ≡ each (λ i v. (if bit mask i then 0 else v)) 0 values }
-{
-    let mut i = 0;
-    while i < 16 {
-        values[i] = chosen(values[i], (mask >> i) % 2 == 1, 0);
-        i += 1;
-    }
-    values
-}
-
-// One of two numbers.
-pub fn chosen(old: u32, yes: bool, new: u32) -> u32
+// One of two values.
+pub fn chosen<T: Copy>(old: T, yes: bool, new: T) -> T
     ensures { result ≡ (if yes then new else old) }
 {
     if yes { new } else { old }

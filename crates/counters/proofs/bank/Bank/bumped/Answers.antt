@@ -1,6 +1,6 @@
 -- `counters::bank::Bank::bumped` meets its contract: the store is one counter's event, and past the sixteenth nothing is stored or counted.
 -- Assumes nothing.
-use Rattle.std.proofs.Common.{◌≡◌, length, get_or, set, sym, ap, ◌∙◌, arith, rules}
+use Rattle.std.proofs.Common.{◌≡◌, length, get_or, sym, ◌∙◌, arith, rules}
 use lib.Seq.{set_out}
 use Rattle.counters.specs.Bank.{grown}
 use Rattle.counters.proofs.EachLaws.{store_each}
@@ -9,7 +9,7 @@ use Rattle.counters.proofs.bank.Bank.bumped.Goals as goal
 pub returns-then-index-lt16 : goal.returns-then-index-lt16
 returns-then-index-lt16 c =
     let a = c.args in
-    let next = ap (set a.self.values a.index) c.wrapping_add_u32.ensures.value ∙ store_each (λ v. grown v 1) a.index a.self.values in
+    let next = store_each (λ v. grown v 1) a.index a.self.values in
     λ i. record { values = next i; shadows = a.self.shadows }
 
 pub returns-else-index-lt16 : goal.returns-else-index-lt16
