@@ -11,13 +11,20 @@ use lib.Dec.{eqb, leb, ltb}
 use lib.ListN.{drop, get_or, length, take, drop_of_length-le, length-drop}
 use lib.Seq.{drop-append-add, drop-drop, get_or-drop, take_all}
 use borrow.Author.Tests.{eqb-false, eqb-true, leb-false, leb-true, ltb-false, ltb-true, ne_eqb}
+use mathlib.Core.HLevel.{Π_prop, ⊥_prop, is_prop→PathP}
+use Rattle.std.specs.Prelude.{◌≢◌}
 use Rattle.samples.specs.Layout.{Widths, sample_words, zero_sample}
-use Rattle.samples.specs.Read.{Found, fault_at, read_part, verdict_number, wanted}
+use Rattle.samples.specs.Read.{Found, fault_at, fault_number, read_part, verdict_number, wanted}
+use Rattle.samples.specs.declared.sample.Sample.{Sample}
+use Rattle.samples.specs.declared.reader.Fault.{Fault}
+use Rattle.samples.specs.declared.reader.Fault.TheVariants.{Header, Mark, Parity, TooLarge, Unfinished}
 use Rattle.samples.proofs.Decided.{place_20, place_fault}
-use Rattle.samples.proofs.Numbers.{empty_20, refused_nothing, refused_numbers, verdict_one}
+use Rattle.samples.proofs.Numbers.{empty_20, fault_one, refused_nothing, refused_numbers}
 use Rattle.samples.proofs.RoundTrip.{word_passed}
 use Rattle.samples.proofs.Theorems.{accepted_count, accepted_place, accepted_words}
+use Rattle.walk.specs.declared.gap.Gap.{Gap}
 use Rattle.walk.specs.declared.Step.{Step}
+use Rattle.walk.specs.declared.Step.TheVariants.{End, Gap as Gapped, Whole}
 use Rattle.walk.specs.Pieces.{Boundary, EndsAt, end_answer, gap_answer, moved, sample_answer}
 use Rattle.walk.specs.Walk.{Answer, after_boundary, answer_at, skip, through, told}
 use Rattle.walk.proofs.BoundaryLaws.{after_ends, unmarked}
@@ -27,14 +34,38 @@ moved_moved : (m n : ℕ) (a : Answer) → moved (m + n) a ≡ moved m (moved n 
 moved_moved m n a = λ i. record { sample = a.sample; next = add_assoc m n a.next i; decided = add_assoc m n a.decided i; skipped = a.skipped; number = a.number }
 
 -- a step is told by its own fields
-pub told_own : (s : Step) → ((told s).sample ≡ s.sample) × ((told s).next ≡ s.next) × ((told s).decided ≡ s.decided) × ((told s).skipped ≡ s.skipped) × ((told s).number ≡ verdict_number s.verdict)
-told_own s = (refl, refl, refl, refl, refl)
+pub told_own : ((s : Sample) (next : ℕ) → told (Whole s next) ≡ sample_answer next s) × ((g : Gap) → ((told (Gapped g)).sample ≡ zero_sample) × ((told (Gapped g)).next ≡ g.next) × ((told (Gapped g)).decided ≡ g.decided) × ((told (Gapped g)).skipped ≡ g.skipped) × ((told (Gapped g)).number ≡ fault_number g.fault)) × ((place decided : ℕ) → told (End place decided) ≡ end_answer place decided)
+told_own = (λ s next. refl, λ g. (refl, refl, refl, refl, refl), λ place decided. refl)
+
+-- a gap's number is not the end's
+pub gap_number : (f : Fault) → f ≢ Unfinished → 21 ≤ fault_number f
+gap_number Unfinished other = absurd (other refl)
+gap_number TooLarge other = omega arith
+gap_number Parity other = omega arith
+gap_number Header other = omega arith
+gap_number Mark other = omega arith
 
 -- and two that are told alike are equal, so the walk's contract leaves one
 pub step_one : (a b : Step) → told a ≡ told b → a ≡ b
-step_one a b e =
-    let same : a.verdict ≡ b.verdict = verdict_one a.verdict b.verdict (ap (λ (x : Answer). x.number) e) in
-    λ i. record { sample = (e i).sample; next = (e i).next; decided = (e i).decided; skipped = (e i).skipped; verdict = same i }
+step_one (Whole s m) (Whole t n) e = λ i. Whole (e i).sample (e i).next
+step_one (Whole s m) (Gapped h) e = absurd (omega (arith, ap (λ (x : Answer). x.number) e, gap_number h.fault h.bad_word))
+step_one (Whole s m) (End n q) e = absurd (omega (arith, ap (λ (x : Answer). x.number) e))
+step_one (Gapped g) (Whole t n) e = absurd (omega (arith, ap (λ (x : Answer). x.number) e, gap_number g.fault g.bad_word))
+step_one (Gapped g) (Gapped h) e =
+    let same : g.fault ≡ h.fault = fault_one g.fault h.fault (ap (λ (x : Answer). x.number) e) in
+    λ i.
+    Gapped
+    (record {
+      fault = same i;
+      decided = (e i).decided;
+      skipped = (e i).skipped;
+      next = (e i).next;
+      bad_word = is_prop→PathP (λ j. same j ≢ Unfinished) (λ j. Π_prop (λ _. ⊥_prop)) g.bad_word h.bad_word i;
+    })
+step_one (Gapped g) (End n q) e = absurd (omega (arith, ap (λ (x : Answer). x.number) e, gap_number g.fault g.bad_word))
+step_one (End m p) (Whole t n) e = absurd (omega (arith, ap (λ (x : Answer). x.number) e))
+step_one (End m p) (Gapped h) e = absurd (omega (arith, ap (λ (x : Answer). x.number) e, gap_number h.fault h.bad_word))
+step_one (End m p) (End n q) e = λ i. End (e i).next (e i).decided
 
 -- ---- the three kinds of answers
 
@@ -102,25 +133,12 @@ module _ (w : Widths) (ws : List ℕ) (place : ℕ) where
   gap_there h = omega (arith, (place_fault w rest h).0.there, length-drop place ws)
 
   -- the place after the boundary, from the capture's first word on
-  after_moved : after_boundary ws (place + r.place) ≡ place + after_boundary rest r.place
+  pub after_moved : after_boundary ws (place + r.place) ≡ place + after_boundary rest r.place
   after_moved =
       ap (λ (l : List ℕ). place + r.place + through l) (sym (drop-drop r.place place ws)) ∙ add_assoc place r.place (through (drop r.place rest))
 
   gap_end : 21 ≤ r.number → EndsAt ws (place + r.place) (place + after_boundary rest r.place)
   gap_end h = subst (EndsAt ws (place + r.place)) after_moved (after_ends ws (place + r.place) (gap_there h))
-
-  -- the answer as the code puts it together, and what it skips as it counts that
-  pub answer_is : (f : Found) (skipped : ℕ) → f ≡ r → skipped ≡ skip r rest → ◌≡◌ {A = Answer} (record { sample = f.sample; next = place + (f.count + skipped); decided = place + f.place; skipped = skipped; number = f.number }) (answer_at w ws place)
-  unfolding answer_at
-  answer_is f skipped e k =
-      λ i. record { sample = (e i).sample; next = place + ((e i).count + k i); decided = place + (e i).place; skipped = k i; number = (e i).number }
-
-  pub skip_from : (p : ℕ) → p ≡ r.place → 21 ≤ r.number → after_boundary ws (place + p) - place ≡ skip r rest
-  skip_from p e h =
-      ap (λ (q : ℕ). after_boundary ws (place + q) - place) e
-      ∙ ap (λ (k : ℕ). k - place) after_moved
-      ∙ add-sub_cancel_left place (after_boundary rest r.place)
-      ∙ sym (skip_gap r rest h)
 
   -- ---- gaps
 
@@ -210,15 +228,6 @@ module _ (w : Widths) (ws : List ℕ) (place : ℕ) where
           subst (λ (b : Answer). (place < b.next) × (b.next ≤ length ws)) (sym (answer_sample q)) (omega (arith, size.0), omega (arith, size.1, length-drop place ws))
       go (the_end q) = absurd (eqb-false r.number 20 e q)
       go (a_gap h most) = subst (λ (b : Answer). (place < b.next) × (b.next ≤ length ws)) (sym (answer_gap h)) (omega (arith, (gap_end h).after), (gap_end h).within)
-
-  -- what is read or skipped is there
-  pub words_within : r.count + skip r rest ≤ length ws - place
-  unfolding answer_at
-  words_within = go (eqb a.number 20) refl
-    where
-      go : (t : Bool) → eqb a.number 20 ≡ t → r.count + skip r rest ≤ length ws - place
-      go true e = let stays = (end_stays (eqb-true r.number 20 e)).0 in omega (arith, stays)
-      go false e = let on = moves_on e in omega (arith, on.0, on.1)
 
   -- what a call gives is what the reader finds in the words from the place on, with the place added
   pub reader_told : (a.sample ≡ r.sample) × (a.number ≡ r.number) × (a.decided ≡ place + r.place)

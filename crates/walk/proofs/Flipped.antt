@@ -12,11 +12,12 @@ use lib.ListN.{get_or, length, set, length-set}
 use lib.Seq.{get_or-set_other, get_or-set_same}
 use borrow.Author.Tests.{eq-eqb, eqb-false, eqb-true, le-ltb, ltb-false, ne_eqb}
 use Rattle.words.specs.Word.{marked, odd_ones, too_large}
+use Rattle.std.specs.Prelude.{Some}
 use Rattle.samples.specs.Layout.{Widths, sample_words}
 use Rattle.samples.specs.Read.{fault_at, is_good, read_part, verdict_number, wanted}
 use Rattle.samples.specs.Write.{writable}
 use Rattle.samples.specs.declared.sample.Sample.{Sample}
-use Rattle.samples.specs.declared.reader.Verdict.TheVariants.{Parity}
+use Rattle.samples.specs.declared.reader.Fault.TheVariants.{Parity}
 use Rattle.samples.proofs.Decided.{written_wanted, written_whole}
 use Rattle.samples.proofs.Numbers.{Reached, broken_told, fault_in, same_faults, same_wanted}
 use Rattle.samples.proofs.ReadLaws.{fault_by_lem}
@@ -75,7 +76,7 @@ module _ (w : Widths) (s : Sample) (fit : writable w s ≡ true) where
     reached : Reached w changed j
     reached = record { there = subst (λ (n : ℕ). j < n) (sym long) there; inside = inside j refl; before = before }
 
-    fault : fault_in w changed j ≡ Parity
+    fault : fault_in w changed j ≡ Some Parity
     fault =
         ap (fault_at (wanted w changed) j) (get_or-set_same words j x 0 there)
         ∙ fault_by_lem (wanted w changed) j x (le-ltb 1023 x few) even refl refl refl

@@ -1,10 +1,11 @@
 -- Document 02, Wish 1: carry on after a bad word; with Wish 12's "The walk of Wish 1 turns this into a place in the whole capture".
 use Rattle.std.specs.Prelude.{ℕ, zero, suc, ◌+◌, Bool, cond, ◌&&◌, List, [], ◌∷◌, eqb, leb, drop, length}
 use Rattle.words.specs.Word.{marked}
-use Rattle.samples.specs.Layout.{Widths}
-use Rattle.samples.specs.Read.{Found, read_part, verdict_number}
+use Rattle.samples.specs.Layout.{Widths, zero_sample}
+use Rattle.samples.specs.Read.{Found, fault_number, read_part}
 use Rattle.samples.specs.declared.sample.Sample.{Sample}
 use Rattle.walk.specs.declared.Step.{Step}
+use Rattle.walk.specs.declared.Step.TheVariants.{End, Gap, Whole}
 
 -- a boundary: a word "that is at most 1023 and has its end mark"
 abbrev pub is_boundary : ℕ → Bool
@@ -47,9 +48,11 @@ answer_at w ws place =
       number = r.number;
     }
 
--- what the walk hands back, told so
+-- what the walk hands back, told so: where a sample's words end, and the next place is; the sample beside the others is all zeros
 abbrev pub told : Step → Answer
-told s = record { sample = s.sample; next = s.next; decided = s.decided; skipped = s.skipped; number = verdict_number s.verdict }
+told (Whole s next) = record { sample = s; next = next; decided = next; skipped = 0; number = 0 }
+told (Gap g) = record { sample = zero_sample; next = g.next; decided = g.decided; skipped = g.skipped; number = fault_number g.fault }
+told (End place decided) = record { sample = zero_sample; next = place; decided = decided; skipped = 0; number = 20 }
 
 -- the answers to at most k calls, the first at a place and each other one at the place that the one before it gave; "Reply 20 ends the walk"
 unfoldable pub answers : Widths → List ℕ → ℕ → ℕ → List Answer

@@ -5,46 +5,50 @@ ghost use Rattle.std.specs.Prelude.{◌≡◌};
 ghost use Rattle.samples.specs.Layout.{widths};
 ghost use Rattle.walk.specs.Walk.{after_boundary, answer_at, is_boundary, told};
 
+pub mod gap;
+
+use gap::Gap;
 use samples::edition::Edition;
-use samples::reader::{Verdict, read, verdict_number};
+use samples::reader::{Fault, read};
 use samples::sample::Sample;
-use words::size::least;
 use words::word::{marked, too_large};
 
-// What stands at a place of a capture. Good is a sample, and the others have zeros for one; Unfinished ends the walk and hands the place back;
-// all else is a gap.
+// What stands at a place of a capture.
 #[derive(Clone, Copy)]
-pub struct Step {
-    pub sample: Sample,
-    // The place after it.
-    pub next: usize,
-    // The place where the good words end: the deciding word's, with a gap.
-    pub decided: usize,
-    // How many words a gap has; 0 beside a sample and at the end.
-    pub skipped: usize,
-    pub verdict: Verdict,
+pub enum Step {
+    // A sample, and the place after it.
+    Whole { sample: Sample, next: usize },
+    // Words that are no sample.
+    Gap(Gap),
+    // Too few words for a sample, all good: the walk's end. The place asked for, and the place where the good words end.
+    End { place: usize, decided: usize },
 }
 
 // The sample or the gap at any place, also past the end.
 pub fn at(edition: Edition, capture: &[u16], place: usize) -> Step
     ensures { told result ≡ answer_at (widths edition) capture.now place }
 {
-    let start = least(place, capture.len());
-    let found = read(edition, &capture[start..]);
-    let sample = found.sample;
-    let verdict = found.verdict;
-    let decided = place + found.place;
-    let skipped = if 20 < verdict_number(verdict) {
-        after_boundary(capture, decided) - place
-    } else {
-        0
-    };
-    Step {
-        sample,
-        next: place + (found.count + skipped),
-        decided,
-        skipped,
-        verdict,
+    let start = place.min(capture.len());
+    match read(edition, &capture[start..]) {
+        Ok(reading) => Step::Whole {
+            sample: reading.sample,
+            next: place + reading.count,
+        },
+        Err(refusal) => {
+            let decided = place + refusal.place;
+            match refusal.fault {
+                Fault::Unfinished => Step::End { place, decided },
+                fault => {
+                    let next = after_boundary(capture, decided);
+                    Step::Gap(Gap {
+                        fault,
+                        decided,
+                        skipped: next - place,
+                        next,
+                    })
+                }
+            }
+        }
     }
 }
 
@@ -53,7 +57,7 @@ fn after_boundary(capture: &[u16], start: usize) -> usize
     ensures { result ≡ after_boundary capture.now start }
 {
     let mut i = start;
-    let next = loop {
+    loop {
         if capture.len() <= i {
             break i;
         }
@@ -61,13 +65,12 @@ fn after_boundary(capture: &[u16], start: usize) -> usize
             break i + 1;
         }
         i += 1;
-    };
-    next
+    }
 }
 
 // Whether a gap ends with the word.
 fn is_boundary(word: u16) -> bool
     ensures { result ≡ is_boundary word }
 {
-    if too_large(word) { false } else { marked(word) }
+    !too_large(word) && marked(word)
 }

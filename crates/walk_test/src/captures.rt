@@ -74,7 +74,7 @@ fn sample(header: u32, source: u32, stamp: u64, user: u64, counters: [u32; 16]) 
 fn put(edition: Edition, sample: Sample, words: &mut [u16], start: usize)
     requires { start ≤ length words.old }
 {
-    write(edition, sample, &mut words[start..]);
+    let _ = write(edition, sample, &mut words[start..]);
 }
 
 // With another word at a place of the buffer; past it nothing changes.

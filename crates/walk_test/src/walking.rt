@@ -1,13 +1,11 @@
 // The walk over a capture, from a place on until it ends.
 use super::show;
 use samples::edition::Edition;
-use samples::reader::verdict_number;
-use walk::at;
-use words::size::least;
+use walk::{Step, at};
 
 // Over the first `count` words, or all of them if there are fewer.
 pub fn over_first(edition: Edition, name: &[u8], words: [u16; 144], count: usize, start: usize) {
-    walk_on(edition, name, &words[0..least(count, 144)], start);
+    walk_on(edition, name, &words[..count.min(144)], start);
 }
 
 // A line for each sample and each gap, and one for the end.
@@ -15,12 +13,11 @@ fn walk_on(edition: Edition, name: &[u8], capture: &[u16], start: usize) {
     let mut place = start;
     loop {
         let found = at(edition, capture, place);
-        let next = found.next;
-        let verdict = found.verdict;
         show::step(edition, name, capture.len(), place, found);
-        if verdict_number(verdict) == 20 {
-            break;
+        match found {
+            Step::Whole { next, .. } => place = next,
+            Step::Gap(gap) => place = gap.next,
+            Step::End { .. } => break,
         }
-        place = next;
     }
 }

@@ -3,5 +3,5 @@ use Prim.Native.Nat.{◌-◌}
 use lib.ListN.{length}
 use Rattle.walk_test.proofs.walking.walk_on.Given as goal
 
-abbrev pub decreases-loop-edition : goal.decreases-loop-edition
-decreases-loop-edition l = length l.capture - l.place
+abbrev pub decreases-loop-next : goal.decreases-loop-next
+decreases-loop-next l = length l.capture - l.place
