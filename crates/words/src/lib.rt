@@ -2,6 +2,8 @@
 #![tactic(auto)]
 
 pub mod byte;
+pub mod number;
 pub mod parity;
 pub mod size;
+pub mod table;
 pub mod word;
