@@ -4,7 +4,7 @@ ghost use Rattle.std.specs.Prelude.{◌≤◌, ◌<◌};
 use super::{given, show};
 use printing::print;
 use samples::edition::Edition;
-use samples::reader::{read, verdict_number};
+use samples::reader::{Reading, Refusal, read};
 
 // The bits that a damage flips in the word at its place.
 const ABOVE: u16 = 1024;
@@ -32,149 +32,101 @@ enum Rest {
     Missing,
 }
 
-// What is asked of a reading.
+// A damage to a Trace or a Resource sample.
 #[derive(Clone, Copy)]
-enum Question {
-    Answer,
-    Count,
-    Place,
-}
-
-// The damages to a Trace or a Resource sample.
-pub fn every_place(edition: Edition, kind: &[u8], resource: bool) {
-    case(edition, kind, resource, b"above 1023", ABOVE, Rest::Good);
-    case(edition, kind, resource, b"parity", PARITY, Rest::Good);
-    case(edition, kind, resource, b"header bit 5", HEADER, Rest::Good);
-    case(edition, kind, resource, b"end mark", MARK, Rest::Good);
-    case(
-        edition,
-        kind,
-        resource,
-        b"parity and every later word",
-        PARITY,
-        Rest::Bad,
-    );
-    case(edition, kind, resource, b"all at once", ALL, Rest::Good);
-    case(edition, kind, resource, b"cut", 0, Rest::Missing);
-    longer(edition, kind, resource);
-}
-
-// What stands behind the sample isn't looked at, and changes nothing.
-fn longer(edition: Edition, kind: &[u8], resource: bool) {
-    case(
-        edition,
-        kind,
-        resource,
-        b"above 1023, of 100 words",
-        ABOVE,
-        Rest::Longer,
-    );
-    case(
-        edition,
-        kind,
-        resource,
-        b"parity, of 100 words",
-        PARITY,
-        Rest::Longer,
-    );
-    case(
-        edition,
-        kind,
-        resource,
-        b"end mark, of 100 words",
-        MARK,
-        Rest::Longer,
-    );
-}
-
-// A line: the answers, the counts and the places, in the order of the damaged places.
-fn case(edition: Edition, kind: &[u8], resource: bool, name: &[u8], bits: u16, rest: Rest) {
-    show::case(b"damage ", edition, kind);
-    print::text(name);
-    print::text(b": answers");
-    each(edition, resource, bits, rest, Question::Answer);
-    print::text(b", counts");
-    each(edition, resource, bits, rest, Question::Count);
-    print::text(b", places");
-    each(edition, resource, bits, rest, Question::Place);
-    print::text(b"\n");
-}
-
-fn each(edition: Edition, resource: bool, bits: u16, rest: Rest, question: Question) {
-    let end = places(rest, given::length(edition, resource));
-    let mut run = print::no_run();
-    let mut place = 0;
-    while place < end {
-        run = print::add(run, at(edition, resource, bits, rest, question, place));
-        place += 1;
-    }
-    print::end(run);
-}
-
-// A part may also end after the sample's last word, and is whole then.
-fn places(rest: Rest, length: usize) -> usize
-    requires { length ≤ 84 }
-    ensures { result ≤ 85 }
-{
-    match rest {
-        Rest::Missing => length + 1,
-        _ => length,
-    }
-}
-
-fn at(
+struct Damage {
     edition: Edition,
     resource: bool,
     bits: u16,
     rest: Rest,
-    question: Question,
-    place: usize,
-) -> u64
-    requires { place < 100 }
-{
-    let words = given::words(edition, resource);
-    let length = given::length(edition, resource);
-    match rest {
-        Rest::Good => first(
+}
+
+// The damages to a Trace or a Resource sample.
+pub fn every_place(edition: Edition, kind: &[u8], resource: bool) {
+    let case = |name: &[u8], bits: u16, rest: Rest| {
+        show::case(b"damage ", edition, kind);
+        print::text(name);
+        line(Damage {
             edition,
-            damaged(words, bits, place, length),
-            length,
-            question,
-        ),
-        Rest::Bad => first(
-            edition,
-            damaged(words, bits, place, place + 1),
-            length,
-            question,
-        ),
-        Rest::Longer => first(edition, damaged(words, bits, place, length), 100, question),
-        Rest::Missing => first(edition, words, place, question),
+            resource,
+            bits,
+            rest,
+        });
+    };
+    case(b"above 1023", ABOVE, Rest::Good);
+    case(b"parity", PARITY, Rest::Good);
+    case(b"header bit 5", HEADER, Rest::Good);
+    case(b"end mark", MARK, Rest::Good);
+    case(b"parity and every later word", PARITY, Rest::Bad);
+    case(b"all at once", ALL, Rest::Good);
+    case(b"cut", 0, Rest::Missing);
+    // What stands behind the sample isn't looked at, and changes nothing.
+    case(b"above 1023, of 100 words", ABOVE, Rest::Longer);
+    case(b"parity, of 100 words", PARITY, Rest::Longer);
+    case(b"end mark, of 100 words", MARK, Rest::Longer);
+}
+
+// The answers, the counts and the places, in the order of the damaged places.
+fn line(damage: Damage) {
+    print::text(b": answers");
+    damage.each(show::number);
+    print::text(b", counts");
+    damage.each(show::count);
+    print::text(b", places");
+    damage.each(show::place);
+    print::text(b"\n");
+}
+
+impl Damage {
+    // A number of each place's reading.
+    fn each<F: Fn(Result<Reading, Refusal>) -> u64>(self, number: F)
+        requires { F.IsAlwaysCallable number }
+    {
+        let mut run = print::no_run();
+        for place in 0..self.places() {
+            run = print::add(run, number(self.reading(place)));
+        }
+        print::end(run);
+    }
+
+    // A part may also end after the sample's last word, and is whole then.
+    fn places(self) -> usize
+        ensures { result ≤ 85 }
+    {
+        let length = given::length(self.edition, self.resource);
+        match self.rest {
+            Rest::Missing => length + 1,
+            _ => length,
+        }
+    }
+
+    // What is read with the damage at a place.
+    fn reading(self, place: usize) -> Result<Reading, Refusal>
+        requires { place < 100 }
+    {
+        let words = given::words(self.edition, self.resource);
+        let length = given::length(self.edition, self.resource);
+        match self.rest {
+            Rest::Good => self.first(damaged(words, self.bits, place, length), length),
+            Rest::Bad => self.first(damaged(words, self.bits, place, place + 1), length),
+            Rest::Longer => self.first(damaged(words, self.bits, place, length), 100),
+            Rest::Missing => self.first(words, place),
+        }
+    }
+
+    // What is read of the first `count` words.
+    fn first(self, words: [u16; 100], count: usize) -> Result<Reading, Refusal>
+        requires { count ≤ 100 }
+    {
+        read(self.edition, &words[..count])
     }
 }
 
 // The words with bits flipped at a place, and words above 1023 from a later one on.
-fn damaged(words: [u16; 100], bits: u16, place: usize, later: usize) -> [u16; 100]
+fn damaged(mut words: [u16; 100], bits: u16, place: usize, later: usize) -> [u16; 100]
     requires { (place < 100) × (later ≤ 100) }
 {
-    let mut part = words;
-    part[place] = part[place] ^ bits;
-    let mut i = later;
-    while i < 100 {
-        part[i] = 65535;
-        i += 1;
-    }
-    part
-}
-
-// What is asked of the reading of the first `count` words.
-fn first(edition: Edition, words: [u16; 100], count: usize, question: Question) -> u64
-    requires { count ≤ 100 }
-{
-    let found = read(edition, &words[0..count]);
-    let verdict = found.verdict;
-    match question {
-        Question::Answer => verdict_number(verdict),
-        Question::Count => found.count as u64,
-        Question::Place => found.place as u64,
-    }
+    words[place] ^= bits;
+    words[later..].fill(65535);
+    words
 }

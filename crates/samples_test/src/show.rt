@@ -1,9 +1,9 @@
 // Lines for a person to read, with document 01's numbers for the answers.
 use printing::print;
 use samples::edition::Edition;
-use samples::reader::{Reading, verdict_number};
+use samples::reader::{Reading, Refusal, fault_number};
 use samples::sample::Sample;
-use samples::writer::{Written, written_count, written_number};
+use samples::writer::{WriteError, written_count, written_number};
 use words::word::byte;
 
 const STDOUT_FILENO: i32 = 1;
@@ -48,34 +48,59 @@ pub fn room(room: usize) {
     }
 }
 
-fn answer(answer: u64, count: usize) {
+fn answer(answer: u64, count: u64) {
     print::field(b": answer ", answer);
-    print::field(b" count ", count as u64);
+    print::field(b" count ", count);
 }
 
 // What the writer answered, and the whole buffer after it, as the rest of a line.
-pub fn written(written: Written, buffer: &[u16]) {
-    answer(written_number(written), written_count(written));
+pub fn written(written: Result<usize, WriteError>, buffer: &[u16]) {
+    answer(written_number(written), written_count(written) as u64);
     print::text(b", buffer");
     print::words(buffer);
     print::text(b"\n");
 }
 
 // What the reader answered and where it was decided, its sample with it.
-pub fn reading(edition: Edition, name: &[u8], found: Reading) {
+pub fn reading(edition: Edition, name: &[u8], found: Result<Reading, Refusal>) {
     case(b"read ", edition, name);
     rest(found);
 }
 
 // The same as the rest of a line.
-pub fn rest(found: Reading) {
-    let verdict = found.verdict;
-    let sample = found.sample;
-    answer(verdict_number(verdict), found.count);
-    print::field(b" place ", found.place as u64);
+pub fn rest(found: Result<Reading, Refusal>) {
+    answer(number(found), count(found));
+    print::field(b" place ", place(found));
     print::text(b", ");
-    fields(sample);
+    match found {
+        Ok(reading) => fields(reading.sample),
+        Err(_) => fields(Sample::zero()),
+    }
     print::text(b"\n");
+}
+
+// The number of what the reader answered; 0 with a sample.
+pub fn number(found: Result<Reading, Refusal>) -> u64 {
+    match found {
+        Ok(_) => 0,
+        Err(refusal) => fault_number(refusal.fault),
+    }
+}
+
+// How many words the sample took; none with a refusal.
+pub fn count(found: Result<Reading, Refusal>) -> u64 {
+    match found {
+        Ok(reading) => reading.count as u64,
+        Err(_) => 0,
+    }
+}
+
+// How many good words stand before the decision; a sample's own, if there is one.
+pub fn place(found: Result<Reading, Refusal>) -> u64 {
+    match found {
+        Ok(reading) => reading.count as u64,
+        Err(refusal) => refusal.place as u64,
+    }
 }
 
 // The data bytes of words, in hexadecimal as document 01 writes them.

@@ -46,7 +46,7 @@ fn put(edition: Edition, sample: Sample, words: [u16; 170], at: usize) -> [u16; 
 fn write_from(edition: Edition, sample: Sample, words: &mut [u16], at: usize)
     requires { at ≤ length words.old }
 {
-    write(edition, sample, &mut words[at..]);
+    let _ = write(edition, sample, &mut words[at..]);
 }
 
 fn read_first(edition: Edition, name: &[u8], words: &[u16], count: usize)
@@ -60,12 +60,11 @@ fn read_on(edition: Edition, name: &[u8], words: &[u16]) {
     let mut at = 0;
     while at < words.len() {
         let found = read(edition, &words[at..]);
-        let count = found.count;
         show::reading(edition, name, found);
-        if count == 0 {
+        let Ok(reading) = found else {
             return;
-        }
-        at += count;
+        };
+        at += reading.count;
         show::taken(edition, name, at);
     }
 }

@@ -6,9 +6,14 @@ use printing::print;
 use samples::edition::Edition;
 use samples::reader::read;
 use samples::sample::Sample;
-use samples::writer::{Written, write};
+use samples::writer::{WriteError, write};
 
-fn write_first(edition: Edition, sample: Sample, buffer: &mut [u16], room: usize) -> Written
+fn write_first(
+    edition: Edition,
+    sample: Sample,
+    buffer: &mut [u16],
+    room: usize,
+) -> Result<usize, WriteError>
     requires { room ≤ length buffer.old }
 {
     write(edition, sample, &mut buffer[0..room])
@@ -109,7 +114,7 @@ fn there_and_back(edition: Edition, name: &[u8], sample: Sample) {
 // M11 as document 01 has it: bytes.
 pub fn marked_example(edition: Edition) {
     let mut buffer = [given::MARK; 100];
-    write(edition, given::listing_b(), &mut buffer);
+    let _ = write(edition, given::listing_b(), &mut buffer);
     first_bytes(
         edition,
         b"M11 bytes",
