@@ -1,6 +1,7 @@
 -- Laws of the fields of a register: field i after a write is the data's where its low bits aren't zero, else the old one; a register is known by
 -- its fields. By induction on how many there are. Assumes nothing.
-use Rattle.std.proofs.Common.{◌≡◌, ℕ, zero, suc, ◌+◌, ◌-◌, ◌*◌, ◌/◌, ◌%◌, ◌^◌, ◌<◌, ◌≤◌, Bool, true, false, cond, not, ◌&&◌, eqb, sym, refl, ap, ◌∙◌, ap₂, lt_of_lt_of_le, le_of_suc-le-suc, not-suc-le-zero, mod-lt, zero-lt-suc, add_comm, div-one, arith, pow_mono, pow-add, shr-shr, eq-eqb, ne_eqb}
+use Rattle.std.proofs.Common.{◌≡◌, ℕ, zero, suc, ◌+◌, ◌-◌, ◌*◌, ◌/◌, ◌%◌, ◌^◌, ◌<◌, ◌≤◌, Bool, true, false, cond, not, ◌&&◌, eqb, sym, refl, ap, ◌∙◌, ap₂, lt_of_lt_of_le, le_of_suc-le-suc, not-suc-le-zero, mod-lt, zero-lt-suc, add_comm, div-one, arith, pow_mono, pow-add, shr-shr, eq-eqb, ne_eqb, add-one}
+use Rattle.std.specs.List.{list_all, range_with_len}
 use native.Mathlib.Nat.{div-eq_of_lt}
 use mathlib.Core.Bool.{false≢true}
 use Rattle.words.proofs.WordLaws.{both_left, both_right}
@@ -85,16 +86,16 @@ fields_same (suc n) x y h k same =
     omega arith
 
 -- whether none of the fields from i on is zero in its low bits: the first of them and the rest
-pub none_from : (n low x i : ℕ) → none_zero (suc n) low (x / 2 ^ (4 * i)) ≡ not (eqb (field_at x i % low) 0) && none_zero n low (x / 2 ^ (4 * suc i))
+none_from : (n low x i : ℕ) → none_zero (suc n) low (x / 2 ^ (4 * i)) ≡ not (eqb (field_at x i % low) 0) && none_zero n low (x / 2 ^ (4 * suc i))
 unfolding none_zero
 none_from n low x i = ap (λ (y : ℕ). not (eqb (field_at x i % low) 0) && none_zero n low y) (sym (next_field x i))
 
-pub none_step : (low x i : ℕ) {zeroed : Bool} → i < 16 → eqb (field_at x i % low) 0 ≡ zeroed → none_zero (16 - i) low (x / 2 ^ (4 * i)) ≡ not zeroed && none_zero (16 - suc i) low (x / 2 ^ (4 * suc i))
-none_step low x i h e =
-    let more : 16 - i ≡ suc (16 - suc i) = omega arith in
-    ap (λ (n : ℕ). none_zero n low (x / 2 ^ (4 * i))) more
-    ∙ none_from (16 - suc i) low x i
-    ∙ ap (λ (b : Bool). not b && none_zero (16 - suc i) low (x / 2 ^ (4 * suc i))) e
+-- whether each of n fields from i on is not zero, and that none is
+pub none_all : (n low x i : ℕ) → list_all (λ j. not (eqb (field_at x j % low) 0)) (range_with_len i n) ≡ none_zero n low (x / 2 ^ (4 * i))
+unfolding none_zero
+none_all zero low x i = refl
+none_all (suc n) low x i =
+    ap (λ (b : Bool). not (eqb (field_at x i % low) 0) && b) (rw add-one (none_all n low x (suc i))) ∙ sym (none_from n low x i)
 
 -- that none is, field by field
 pub none_each : (n low x : ℕ) → none_zero n low x ≡ true → (i : ℕ) → i < n → field_at x i % low ≡ 0 → ⊥

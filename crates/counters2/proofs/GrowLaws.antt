@@ -1,15 +1,12 @@
--- Laws of counting: which counters are upper halves, one software event as a list, counting the same events, events twice and none. Place by place. Assumes nothing.
-use Rattle.std.proofs.Common.{◌≡◌, ℕ, zero, suc, ◌+◌, ◌-◌, ◌/◌, ◌%◌, ◌^◌, ◌<◌, Bool, true, false, cond, ◌&&◌, eqb, leb, List, length, get_or, set, replicate, sym, refl, ap, ◌∙◌, ap₂, add_assoc, arith, length-set, eq-eqb, ne_eqb, eqb-true}
+-- Laws of counting: which counters are upper halves, counting the same events, events twice and none. Place by place. Assumes nothing.
+use Rattle.std.proofs.Common.{◌≡◌, ℕ, zero, suc, ◌+◌, ◌-◌, ◌/◌, ◌%◌, ◌^◌, ◌<◌, Bool, true, false, cond, ◌&&◌, eqb, leb, List, length, get_or, sym, refl, ap, ◌∙◌, ap₂, add_assoc, arith, eq-eqb, ne_eqb, eqb-true}
 use mathlib.Core.Bool.{false≢true}
-use lib.ListN.{get_or-replicate}
 use Rattle.counters.specs.Bank.{each, grown}
 use Rattle.counters.specs.declared.bank.Bank.{Bank}
-use Rattle.counters.proofs.EachLaws.{each_at, each_is, each_length, store_each}
+use Rattle.counters.proofs.EachLaws.{each_at, each_is, each_length}
 use Rattle.counters.proofs.TickLaws.{events_sum, grown_grown}
-use Rattle.counters2.specs.Codes.{by_software, enabled}
-use Rattle.counters2.specs.Counts.{carried, counted, enable_of, mode_of, own_software, reaching, upper}
+use Rattle.counters2.specs.Counts.{carried, counted, reaching, upper}
 use Rattle.counters2.specs.Fields.{field_at}
-use Rattle.counters2.specs.declared.fields.Fields.{Fields}
 
 -- ---- upper halves
 
@@ -21,26 +18,6 @@ upper_odd mode (suc i) h =
 pub upper_even : (mode i : ℕ) → (i % 2 ≡ 1 → ⊥) → upper mode i ≡ false
 upper_even mode zero h = refl
 upper_even mode (suc i) h = ap (λ (b : Bool). b && leb 8 (field_at mode i)) (ne_eqb (i % 2) 0 (λ e. h (omega arith)))
-
--- ---- one software event as a list
-
-pub software_list : (f : Fields) (n : ℕ) → set (replicate 16 0) n (own_software f n n) ≡ each (λ i v. own_software f n i) 0 (replicate 16 0)
-software_list f n =
-    sym
-    (each_is (λ i v. own_software f n i) (replicate 16 0) (set (replicate 16 0) n x) (sym (length-set (replicate 16 0) n x))
-    (λ j h. there j h (eqb j n) refl ∙ sym (ap (λ (l : List ℕ). get_or l j 0) (store_each (λ v. x) n (replicate 16 0)) ∙ each_at (λ i v. cond (eqb i n) x v) j (replicate 16 0) h)))
-  where
-    x : ℕ
-    x = own_software f n n
-
-    due : ℕ → Bool
-    due j = enabled (enable_of f j) && by_software (mode_of f j)
-
-    there : (j : ℕ) → j < 16 → (b : Bool) → eqb j n ≡ b → own_software f n j ≡ cond (eqb j n) x (get_or (replicate 16 0) j 0)
-    there j h true e =
-        ap (λ (k : ℕ). own_software f n k) (eqb-true j n e) ∙ ap (λ (b : Bool). cond b x (get_or (replicate 16 0) j 0)) (sym e)
-    there j h false e =
-        ap (λ (b : Bool). cond (b && due j) 1 0) e ∙ sym (get_or-replicate 16 j 0 0 h) ∙ ap (λ (b : Bool). cond b x (get_or (replicate 16 0) j 0)) (sym e)
 
 -- ---- the same events
 
@@ -61,11 +38,6 @@ module _ (mode : ℕ) (f g : ℕ → ℕ) (b : Bank) where
       each_is (grows f) vs (each (grows g) 0 vs) (sym (each_length (grows g) 0 vs))
       (λ i h. ap (grown (get_or vs i 0)) (reaching_same mode (length vs) f g vs same i h) ∙ sym (each_at (grows g) i vs h)) in
       λ i. record { values = values i; shadows = b.shadows }
-
--- the events as a list
-pub counted_list : (mode : ℕ) (f : ℕ → ℕ) (own : List ℕ) (b : Bank) → length b.values ≡ 16 → own ≡ each (λ i v. f i) 0 (replicate 16 0) → counted mode (λ i. get_or own i 0) b ≡ counted mode f b
-counted_list mode f own b sixteen e =
-    counted_same mode (λ i. get_or own i 0) f b (λ i h. ap (λ (l : List ℕ). get_or l i 0) e ∙ each_at (λ j v. f j) i (replicate 16 0) (omega arith))
 
 -- ---- events twice, and none
 

@@ -1,6 +1,8 @@
 -- Document 001, Tables B5, B6 and B7, by number: what a counter counts, by the low three bits of its Mode field, which clock, by those of its Clock
 -- Select field, and what an Enable field does, by its low two bits.
-use Rattle.std.specs.Prelude.{ℕ, Bool, ◌||◌, ◌==◌}
+use Rattle.std.specs.Prelude.{ℕ, Bool, cond, ◌||◌, ◌==◌}
+use Rattle.counters2.specs.declared.counts.Source.{Source}
+use Rattle.counters2.specs.declared.counts.Source.TheVariants.{Nothing, Clock, Software, ClockWhileHigh, External}
 
 -- Table B5: "x001 CLK", "x101 (same as CLK)"
 abbrev pub by_clock : ℕ → Bool
@@ -17,6 +19,11 @@ while_high mode = mode == 3 || mode == 7
 -- "x100 External Signal (Count external signals, low to high)"
 abbrev pub by_external : ℕ → Bool
 by_external mode = mode == 4
+
+-- the four as one answer; of one number no two of them hold
+abbrev pub source_of : ℕ → Source
+source_of mode =
+    cond (by_clock mode) Clock (cond (by_software mode) Software (cond (while_high mode) ClockWhileHigh (cond (by_external mode) External Nothing)))
 
 -- Table B6: "x001 NodeClk", "x101 (same as NodeClk)"; "x010 NodeClk/10", "x110 (same ..)"; "x011 NodeClk/100", "x111 (same ..)"; "x100 TSclk"
 abbrev pub on_node : ℕ → Bool

@@ -42,19 +42,13 @@ impl Clocks {
     pub fn selected(self, code: u64) -> u32
         ensures { result ≡ selected code self }
     {
-        if (code == 1) | (code == 5) {
-            return self.node;
+        match code {
+            1 | 5 => self.node,
+            2 | 6 => self.tenth,
+            3 | 7 => self.hundredth,
+            4 => self.stamp,
+            _ => 0,
         }
-        if (code == 2) | (code == 6) {
-            return self.tenth;
-        }
-        if (code == 3) | (code == 7) {
-            return self.hundredth;
-        }
-        if code == 4 {
-            return self.stamp;
-        }
-        0
     }
 }
 

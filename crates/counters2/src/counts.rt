@@ -1,45 +1,59 @@
 // What each event does to the sixteen counters.
-ghost use Rattle.std.specs.Prelude.{◌≡◌, ◌+◌, ◌/◌, ◌%◌, ◌^◌, ◌&&◌, ◌||◌, replicate, if◌then◌else◌, slice_index};
-ghost use Rattle.counters.specs.Bank.{each, grown};
+ghost use Rattle.std.specs.Prelude.{◌≡◌, ℕ, ◌<◌, ◌+◌, ◌/◌, ◌^◌, ◌&&◌, ◌||◌, if◌then◌else◌};
 ghost use Rattle.counters2.specs.Clocks.{selected};
-ghost use Rattle.counters2.specs.Codes.{by_clock, by_external, by_software, enabled, restarts, while_high};
-ghost use Rattle.counters2.specs.Counts.{counted, enable_of, fired, loaded, mode_of, own_signals, own_software, own_ticks, reaching, restarted, select_of, signalled, ticked, upper};
-ghost use Rattle.counters2.specs.Fields.{field_at};
+ghost use Rattle.counters2.specs.Codes.{by_clock, by_external, by_software, enabled, source_of, while_high};
+ghost use Rattle.counters2.specs.Counts.{counted, enable_of, fired, loaded, mode_of, restarted, select_of, signalled, ticked, upper};
 
 use super::clocks::Clocks;
 use super::fields::{Fields, field};
-use counters::bank::{Bank, chosen};
+use counters::bank::{Bank, chosen, each_value};
 
 const TWO_32: u64 = 1 << 32;
+
+// What a counter can count: by the low three bits of its Mode field.
+#[derive(Clone, Copy, PartialEq, Eq)]
+pub enum Source {
+    Nothing,
+    Clock,
+    Software,
+    ClockWhileHigh,
+    External,
+}
 
 // Ticks of the clocks, with the external lines that are high during all of them.
 pub fn ticked(bank: Bank, f: Fields, lines: u16, clocks: Clocks) -> Bank
     ensures { result ≡ ticked f lines clocks bank }
 {
-    counted(bank, f.mode, own_ticks(f, lines, clocks))
+    counted(
+        bank,
+        f.mode,
+        |i| ticks_for(f, i, (lines >> i) % 2 == 1, clocks),
+    )
 }
 
 // One external event for each set bit.
 pub fn signalled(bank: Bank, f: Fields, mask: u16) -> Bank
     ensures { result ≡ signalled f mask bank }
 {
-    counted(bank, f.mode, own_signals(f, mask))
+    counted(bank, f.mode, |i| signals_for(f, i, (mask >> i) % 2 == 1))
 }
 
 // A software event for one counter.
 pub fn fired(bank: Bank, f: Fields, index: usize) -> Bank
     ensures { result ≡ fired f index bank }
 {
-    counted(bank, f.mode, own_software(f, index))
+    counted(bank, f.mode, |i| {
+        if i == index { software_for(f, i) } else { 0 }
+    })
 }
 
 // The counters whose field of Enable's data says so become zero.
 pub fn restarted(mut bank: Bank, bits: u64) -> Bank
     ensures { result ≡ restarted bits bank }
 {
-    let values = bank.values;
-    let next = restarted_values(values, bits);
-    bank.values = next;
+    bank.values = each_value(bank.values, |i, v| {
+        if field(bits, i) % 4 == 3 { 0 } else { v }
+    });
     bank
 }
 
@@ -54,28 +68,20 @@ pub fn loaded(mut bank: Bank, index: usize, number: u32) -> Bank
 }
 
 // The counters after their own events, and a pair's upper half after the lower one's wraps.
-fn counted(mut bank: Bank, mode: u64, own: [u32; 16]) -> Bank
-    ensures { result ≡ counted mode (λ i. slice_index own i) bank }
+fn counted<F: Fn(usize) -> u32>(mut bank: Bank, mode: u64, own: F) -> Bank
+    requires { (i : ℕ) → i < 16 → F.pre own i }
+    ensures { (f : ℕ → ℕ) → ((i r : ℕ) → i < 16 → F.post own i r → r ≡ f i) → result ≡ counted mode f bank }
 {
-    let values = bank.values;
-    let next = grown_values(values, mode, own);
-    bank.values = next;
-    bank
-}
-
-fn grown_values(mut values: [u32; 16], mode: u64, own: [u32; 16]) -> [u32; 16]
-    ensures { result ≡ each (λ i v. grown v (reaching mode (λ j. slice_index own j) values i)) 0 values }
-{
+    let mut values = bank.values;
     let mut carry: u32 = 0;
-    let mut i = 0;
-    while i < 16 {
-        let events = own[i];
+    for i in 0..16 {
+        let events = own(i);
         let old = values[i];
-        values[i] = std::num::wrapping_add_u32(old, chosen(events, upper(mode, i), carry));
+        values[i] = old.wrapping_add(chosen(events, upper(mode, i), carry));
         carry = wraps(old, events);
-        i += 1;
     }
-    values
+    bank.values = values;
+    bank
 }
 
 // How often a counter wraps as it grows.
@@ -89,76 +95,53 @@ fn wraps(old: u32, events: u32) -> u32
 fn upper(mode: u64, i: usize) -> bool
     ensures { result ≡ upper mode i }
 {
-    if i % 2 == 1 {
-        return 8 <= field(mode, i - 1);
-    }
-    false
-}
-
-// How many of the ticks count for each counter by its own fields.
-fn own_ticks(f: Fields, lines: u16, clocks: Clocks) -> [u32; 16]
-    ensures { result ≡ each (λ i v. own_ticks f lines clocks i) 0 (replicate 16 0) }
-{
-    let mut own: [u32; 16] = [0; 16];
-    let mut i = 0;
-    while i < 16 {
-        own[i] = ticks_for(f, i, (lines >> i) % 2 == 1, clocks);
-        i += 1;
-    }
-    own
-}
-
-// How many external events count for each.
-fn own_signals(f: Fields, mask: u16) -> [u32; 16]
-    ensures { result ≡ each (λ i v. own_signals f mask i) 0 (replicate 16 0) }
-{
-    let mut own: [u32; 16] = [0; 16];
-    let mut i = 0;
-    while i < 16 {
-        own[i] = signals_for(f, i, (mask >> i) % 2 == 1);
-        i += 1;
-    }
-    own
-}
-
-// A software event for one counter.
-fn own_software(f: Fields, index: usize) -> [u32; 16]
-    ensures { result ≡ each (λ i v. own_software f index i) 0 (replicate 16 0) }
-{
-    let mut own: [u32; 16] = [0; 16];
-    if index < 16 {
-        own[index] = software_for(f, index);
-    }
-    own
+    (i % 2 == 1) && (8 <= field(mode, i - 1))
 }
 
 // How many ticks count for a counter, whose line is high or not.
 fn ticks_for(f: Fields, i: usize, high: bool, clocks: Clocks) -> u32
     ensures { result ≡ (if enabled (enable_of f i) && (by_clock (mode_of f i) || (while_high (mode_of f i) && high)) then selected (select_of f i) clocks else 0) }
 {
-    let mode = field(f.mode, i) % 8;
-    let clock = (mode == 1) | (mode == 5);
-    let gated = (mode == 3) | (mode == 7);
-    if is_enabled(f, i) & (clock | (gated & high)) {
-        return clocks.selected(field(f.select, i) % 8);
+    let due = match source_at(f, i) {
+        Source::Clock => true,
+        Source::ClockWhileHigh => high,
+        _ => false,
+    };
+    if due {
+        clocks.selected(field(f.select, i) % 8)
+    } else {
+        0
     }
-    0
 }
 
 // Whether an external event on its line counts for a counter: 1 or 0.
 fn signals_for(f: Fields, i: usize, hit: bool) -> u32
     ensures { result ≡ (if enabled (enable_of f i) && (by_external (mode_of f i) && hit) then 1 else 0) }
 {
-    let mode = field(f.mode, i) % 8;
-    chosen(0, is_enabled(f, i) & ((mode == 4) & hit), 1)
+    u32::from((source_at(f, i) == Source::External) & hit)
 }
 
 // Whether a software event counts for a counter: 1 or 0.
 fn software_for(f: Fields, i: usize) -> u32
     ensures { result ≡ (if enabled (enable_of f i) && by_software (mode_of f i) then 1 else 0) }
 {
-    let mode = field(f.mode, i) % 8;
-    chosen(0, is_enabled(f, i) & ((mode == 2) | (mode == 6)), 1)
+    u32::from(source_at(f, i) == Source::Software)
+}
+
+// What a counter counts, as its fields say: nothing while it isn't enabled.
+fn source_at(f: Fields, i: usize) -> Source
+    ensures { result ≡ (if enabled (enable_of f i) then source_of (mode_of f i) else Source.Nothing) }
+{
+    if !is_enabled(f, i) {
+        return Source::Nothing;
+    }
+    match field(f.mode, i) % 8 {
+        1 | 5 => Source::Clock,
+        2 | 6 => Source::Software,
+        3 | 7 => Source::ClockWhileHigh,
+        4 => Source::External,
+        _ => Source::Nothing,
+    }
 }
 
 fn is_enabled(f: Fields, i: usize) -> bool
@@ -166,16 +149,4 @@ fn is_enabled(f: Fields, i: usize) -> bool
 {
     let enable = field(f.enable, i) % 4;
     (enable == 2) | (enable == 3)
-}
-
-// The counters that a write of Enable resets become zero.
-fn restarted_values(mut values: [u32; 16], bits: u64) -> [u32; 16]
-    ensures { result ≡ each (λ i v. (if restarts (field_at bits i % 4) then 0 else v)) 0 values }
-{
-    let mut i = 0;
-    while i < 16 {
-        values[i] = chosen(values[i], field(bits, i) % 4 == 3, 0);
-        i += 1;
-    }
-    values
 }

@@ -11,9 +11,9 @@ pub struct Fields {
 }
 
 // Sixteen fields of 1, and of 4.
-const ONES: u64 = 1229782938247303441;
+const ONES: u64 = 0x1111_1111_1111_1111;
 
-const FOURS: u64 = 4919131752989213764;
+const FOURS: u64 = 0x4444_4444_4444_4444;
 
 impl Fields {
     // After a reset: disabled, external and single, the Timestamp's clock.
@@ -69,14 +69,7 @@ fn none_zero(bits: u64, low: u64) -> bool
     requires { 0 < low }
     ensures { result ≡ none_zero 16 low bits }
 {
-    let mut i: usize = 0;
-    while i < 16 {
-        if field(bits, i) % low == 0 {
-            return false;
-        }
-        i += 1;
-    }
-    true
+    (0..16).all(|i| field(bits, i) % low != 0)
 }
 
 // A register after a write: a field that is zero below `low` stays. From the highest field down.
@@ -85,9 +78,7 @@ fn written(old: u64, new: u64, low: u64) -> u64
     ensures { result ≡ written_fields 16 low old new }
 {
     let mut result: u64 = 0;
-    let mut i: usize = 16;
-    while 0 < i {
-        i -= 1;
+    for i in (0..16).rev() {
         result = 16 * result + kept(field(old, i), field(new, i), low);
     }
     result

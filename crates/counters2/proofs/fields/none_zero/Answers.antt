@@ -1,32 +1,15 @@
--- `counters2::fields::none_zero` meets its contract: none of all fields is zero exactly where none from i on is, at each turn. Assumes nothing.
-use Rattle.std.proofs.Common.{◌≡◌, ℕ, ◌-◌, ◌*◌, ◌/◌, ◌%◌, ◌^◌, true, false, eqb, sym, ap, ◌∙◌, div-one, add-one, arith, rules, eq-eqb, ne_eqb}
+-- `counters2::fields::none_zero` meets its contract: each field's test, one after the other. Assumes nothing.
+use Rattle.std.proofs.Common.{ℕ, ◌%◌, not, eqb, refl, ap, ◌∙◌, div-one, rules}
+use Rattle.std.proofs.lemmas.Iterator.{YieldsList-from_range}
+use Rattle.std.proofs.lemmas.Iterator.Search.{all_from_yields_List}
+use borrow.Author.Tests.{tests}
 use Rattle.counters2.specs.Fields.{field_at, none_zero}
-use Rattle.counters2.proofs.FieldLaws.{none_step}
+use Rattle.counters2.proofs.FieldLaws.{none_all}
 use Rattle.counters2.proofs.fields.none_zero.Goals as goal
 
-pub loop-i-init : goal.loop-i-init
-loop-i-init c = (search rules, ap (none_zero 16 c.args.low) (sym (div-one c.args.bits)))
-
-pub returns-then-field-low-eq0 : goal.returns-then-field-low-eq0
-returns-then-field-low-eq0 c =
-    let a = c.args in
-    let l = c.loop-i in
-    let here : eqb (field_at a.bits l.i % a.low) 0 ≡ true =
-    ap (λ (n : ℕ). eqb (n % a.low) 0) (sym c.field.ensures) ∙ eq-eqb _ 0 c.if-field-low-eq0.true in
-    sym (l.invariant.1 ∙ none_step a.low a.bits l.i (search rules) here)
-
-pub loop-i-preserved : goal.loop-i-preserved
-loop-i-preserved c =
-    let a = c.args in
-    let l = c.loop-i in
-    let here : eqb (field_at a.bits l.i % a.low) 0 ≡ false =
-    ap (λ (n : ℕ). eqb (n % a.low) 0) (sym c.field.ensures) ∙ ne_eqb _ 0 c.if-field-low-eq0.false in
-    (search rules, rw add-one (l.invariant.1 ∙ none_step a.low a.bits l.i (search rules) here))
-
 pub returns : goal.returns
-unfolding none_zero
 returns c =
     let a = c.args in
-    let l = c.loop-i in
-    let end : 16 - l.i ≡ 0 = omega arith in
-    sym (l.invariant.1 ∙ ap (λ (n : ℕ). none_zero n a.low (a.bits / 2 ^ (4 * l.i))) end)
+    all_from_yields_List (λ (i : ℕ). not (eqb (field_at a.bits i % a.low) 0)) _ _ _ c.all.ensures.ran (YieldsList-from_range 0 16 16 refl refl) (λ x b q k. search (rules, tests))
+    ∙ none_all 16 a.low a.bits 0
+    ∙ ap (none_zero 16 a.low) (div-one a.bits)
