@@ -62,12 +62,11 @@ pub fn largest(edition: Edition, header: u32) -> Sample {
     }
 }
 
-pub fn with_counter(sample: Sample, place: usize, value: u32) -> Sample {
-    let mut counters = sample.counters;
+pub fn with_counter(mut sample: Sample, place: usize, value: u32) -> Sample {
     if place < 16 {
-        counters[place] = value;
+        sample.counters[place] = value;
     }
-    with_counters(sample, counters)
+    sample
 }
 
 pub fn with_counters(sample: Sample, counters: [u32; 16]) -> Sample {

@@ -10,15 +10,14 @@ use samples::reader::read;
 fn first(edition: Edition, part: &[u16], count: usize)
     requires { count ≤ length part.now }
 {
-    show::rest(read(edition, &part[0..count]));
+    show::rest(read(edition, &part[..count]));
 }
 
-fn with_word(words: [u16; 100], place: usize, word: u16) -> [u16; 100]
+fn with_word(mut words: [u16; 100], place: usize, word: u16) -> [u16; 100]
     requires { place < 100 }
 {
-    let mut part = words;
-    part[place] = word;
-    part
+    words[place] = word;
+    words
 }
 
 // A sample's words with another word at a place, which the name ends with.

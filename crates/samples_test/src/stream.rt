@@ -35,12 +35,11 @@ fn three(edition: Edition) -> [u16; 170] {
 }
 
 // The words with a sample written into the places from `at` on.
-fn put(edition: Edition, sample: Sample, words: [u16; 170], at: usize) -> [u16; 170]
+fn put(edition: Edition, sample: Sample, mut words: [u16; 170], at: usize) -> [u16; 170]
     requires { at ≤ 170 }
 {
-    let mut out = words;
-    write_from(edition, sample, &mut out, at);
-    out
+    write_from(edition, sample, &mut words, at);
+    words
 }
 
 fn write_from(edition: Edition, sample: Sample, words: &mut [u16], at: usize)
@@ -52,7 +51,7 @@ fn write_from(edition: Edition, sample: Sample, words: &mut [u16], at: usize)
 fn read_first(edition: Edition, name: &[u8], words: &[u16], count: usize)
     requires { count ≤ length words.now }
 {
-    read_on(edition, name, &words[0..count]);
+    read_on(edition, name, &words[..count]);
 }
 
 // Reads each sample after the one before, until the reader refuses or nothing is left.

@@ -16,7 +16,7 @@ fn write_first(
 ) -> Result<usize, WriteError>
     requires { room ≤ length buffer.old }
 {
-    write(edition, sample, &mut buffer[0..room])
+    write(edition, sample, &mut buffer[..room])
 }
 
 fn written(edition: Edition, name: &[u8], sample: Sample, room: usize)
@@ -54,20 +54,23 @@ fn header_above(edition: Edition, header: u32, room: usize)
     named(edition, given::sample(header, 5, 3, 258), room);
 }
 
+// A sample that is named by what is above its width.
+fn above(edition: Edition, name: &[u8], field: &[u8], sample: Sample, room: usize)
+    requires { room ≤ 100 }
+{
+    show::case(b"write ", edition, name);
+    print::text(field);
+    named(edition, sample, room);
+}
+
 // A Timestamp above its width.
 fn stamp_above(edition: Edition, name: &[u8], header: u32, room: usize)
     requires { room ≤ 100 }
 {
-    show::case(b"write ", edition, name);
+    let stamped = |stamp: u64| given::sample(header, 5, stamp, 258);
     match edition {
-        Edition::First => {
-            print::text(b"stamp 2^40");
-            named(edition, given::sample(header, 5, given::TWO_40, 258), room);
-        }
-        Edition::Second => {
-            print::text(b"stamp 2^56");
-            named(edition, given::sample(header, 5, given::TWO_56, 258), room);
-        }
+        Edition::First => above(edition, name, b"stamp 2^40", stamped(given::TWO_40), room),
+        Edition::Second => above(edition, name, b"stamp 2^56", stamped(given::TWO_56), room),
     }
 }
 
@@ -75,16 +78,10 @@ fn stamp_above(edition: Edition, name: &[u8], header: u32, room: usize)
 fn user_above(edition: Edition, name: &[u8], header: u32, room: usize)
     requires { room ≤ 100 }
 {
-    show::case(b"write ", edition, name);
+    let used = |user: u64| given::sample(header, 5, 3, user);
     match edition {
-        Edition::First => {
-            print::text(b"user 2^48");
-            named(edition, given::sample(header, 5, 3, given::TWO_48), room);
-        }
-        Edition::Second => {
-            print::text(b"user 2^64 - 1");
-            named(edition, given::sample(header, 5, 3, given::MAX_64), room);
-        }
+        Edition::First => above(edition, name, b"user 2^48", used(given::TWO_48), room),
+        Edition::Second => above(edition, name, b"user 2^64 - 1", used(given::MAX_64), room),
     }
 }
 
@@ -126,7 +123,7 @@ pub fn marked_example(edition: Edition) {
 fn first_bytes(edition: Edition, name: &[u8], words: &[u16], count: usize)
     requires { count ≤ length words.now }
 {
-    show::bytes(edition, name, &words[0..count]);
+    show::bytes(edition, name, &words[..count]);
 }
 
 pub fn accepted(edition: Edition) {

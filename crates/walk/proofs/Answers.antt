@@ -8,6 +8,7 @@ use mathlib.Core.Path.{◌≡◌, refl, sym, ap, ◌∙◌, subst}
 use mathlib.Core.Bool.{Bool, true, false}
 use mathlib.Core.List.{List, ◌++◌}
 use lib.Dec.{eqb, leb, ltb}
+use Rattle.std.proofs.lemmas.List.{drop_min}
 use lib.ListN.{drop, get_or, length, take, drop_of_length-le, length-drop}
 use lib.Seq.{drop-append-add, drop-drop, get_or-drop, take_all}
 use borrow.Author.Tests.{eqb-false, eqb-true, leb-false, leb-true, ltb-false, ltb-true, ne_eqb}
@@ -250,13 +251,7 @@ module _ (w : Widths) (ws : List ℕ) (place : ℕ) where
 
 -- the words from the least of a place and the length on are those from the place on
 pub least_rest : (ws : List ℕ) (place start : ℕ) → start ≡ min place (length ws) → take (length ws - start) (drop start ws) ≡ drop place ws
-least_rest ws place start e = take_all (length ws - start) (drop start ws) (omega (arith, length-drop start ws)) ∙ go (leb place (length ws)) refl
-  where
-    go : (t : Bool) → leb place (length ws) ≡ t → drop start ws ≡ drop place ws
-    go true q = let same : start ≡ place = omega (arith, e, leb-true place (length ws) q) in ap (λ (k : ℕ). drop k ws) same
-    go false q =
-        let past : length ws < place = leb-false place (length ws) q in
-        drop_of_length-le ws {i = start} (omega (arith, e)) ∙ sym (drop_of_length-le ws {i = place} (omega arith))
+least_rest ws place start e = take_all (length ws - start) (drop start ws) (omega (arith, length-drop start ws)) ∙ ap (λ (k : ℕ). drop k ws) e ∙ drop_min place ws
 
 -- so words before a capture move its answers and change nothing else
 pub answer_behind : (w : Widths) (front ws : List ℕ) (place : ℕ) → answer_at w (front ++ ws) (length front + place) ≡ moved (length front) (answer_at w ws place)

@@ -7,6 +7,7 @@ use mathlib.Core.Path.{◌≡◌, refl, sym, ap, ap₂, ◌∙◌, subst}
 use mathlib.Core.Bool.{Bool, true, false, cond}
 use mathlib.Core.List.{List, [], ◌∷◌, ◌++◌, map, append_assoc, append-nil}
 use lib.Dec.{eqb}
+use Rattle.std.proofs.lemmas.Grind.{flat_map-append}
 use lib.ListN.{length, length-append, get_or-append}
 use borrow.Author.Tests.{ne_eqb}
 use Rattle.samples.specs.Layout.{Widths, sample_words, zero_sample}
@@ -185,8 +186,7 @@ walk_samples w ss = walk_laid w (map sound ss)
 module _ (w : Widths) where
   laid_append : (ps qs : List Piece) → laid w (ps ++ qs) ≡ laid w ps ++ laid w qs
   unfolding laid
-  laid_append [] qs = refl
-  laid_append (p ∷ ps) qs = ap (λ (l : List ℕ). piece_words w p ++ l) (laid_append ps qs) ∙ sym (append_assoc (piece_words w p) (laid w ps) (laid w qs))
+  laid_append = flat_map-append (piece_words w)
 
   answers_append : (n : ℕ) (ps qs : List Piece) → piece_answers w n (ps ++ qs) ≡ piece_answers w n ps ++ piece_answers w (n + length (laid w ps)) qs
   unfolding piece_answers laid

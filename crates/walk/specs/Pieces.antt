@@ -1,6 +1,7 @@
 -- Document 02, Wish 1, a second time: where a gap ends by places and numbers alone, each kind of answer field by field, what words the answers of
 -- a walk stand for, and captures that are laid out piece by piece. Of the first statement only what an answer is stands in it.
 use Rattle.std.specs.Prelude.{ℕ, zero, suc, ◌+◌, ◌-◌, ◌*◌, ◌/◌, ◌%◌, ◌≤◌, ◌<◌, ◌≡◌, Bool, true, false, cond, List, [], ◌∷◌, ◌++◌, map, eqb, drop, get_or, length, take}
+use Rattle.std.specs.List.{flat_map}
 use Rattle.samples.specs.Layout.{Widths, sample_words, zero_sample}
 use Rattle.samples.specs.Read.{read_part}
 use Rattle.samples.specs.Write.{writable}
@@ -41,8 +42,7 @@ stands_for w ws a =
     (cond (eqb a.number 20) (drop a.next ws) (take a.skipped (drop (a.next - a.skipped) ws)))
 
 unfoldable pub all_words : Widths → List ℕ → List Answer → List ℕ
-all_words w ws [] = []
-all_words w ws (a ∷ rest) = stands_for w ws a ++ all_words w ws rest
+all_words w ws = flat_map (stands_for w ws)
 
 -- "Reply 20 ends the walk": it comes, and it comes last
 unfoldable pub ends_with20 : List Answer → Bool
@@ -59,8 +59,7 @@ piece_words w (sound s) = sample_words w s
 piece_words w (damaged ws) = ws
 
 unfoldable pub laid : Widths → List Piece → List ℕ
-laid w [] = []
-laid w (p ∷ ps) = piece_words w p ++ laid w ps
+laid w = flat_map (piece_words w)
 
 -- a stretch that is damaged, and ends as damage ends: it has a bad word, and of the words from that on the last is a boundary and no other
 pub record Damaged (w : Widths) (ws : List ℕ) : Type 0 where

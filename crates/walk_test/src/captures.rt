@@ -78,19 +78,17 @@ fn put(edition: Edition, sample: Sample, words: &mut [u16], start: usize)
 }
 
 // With another word at a place of the buffer; past it nothing changes.
-pub fn with_word(words: [u16; 144], place: usize, word: u16) -> [u16; 144] {
-    let mut changed = words;
+pub fn with_word(mut words: [u16; 144], place: usize, word: u16) -> [u16; 144] {
     if place < 144 {
-        changed[place] = word;
+        words[place] = word;
     }
-    changed
+    words
 }
 
 // With bits of one word flipped, likewise.
-pub fn flipped(words: [u16; 144], place: usize, bits: u16) -> [u16; 144] {
-    let mut changed = words;
+pub fn flipped(mut words: [u16; 144], place: usize, bits: u16) -> [u16; 144] {
     if place < 144 {
-        changed[place] = words[place] ^ bits;
+        words[place] ^= bits;
     }
-    changed
+    words
 }
