@@ -1,6 +1,6 @@
 -- Laws of a saved set: where each byte stands, how many there are, and that a set within its widths is read back from its bytes, whatever stands behind
 -- them. Assumes nothing.
-use Prim.Native.Nat.{ℕ, zero, suc, ◌+◌, ◌*◌, ◌^◌, ◌≤◌, ◌<◌}
+use Prim.Native.Nat.{ℕ, suc, ◌+◌, ◌^◌, ◌≤◌, ◌<◌}
 use native.Mathlib.Nat.{mod-eq_of_lt}
 use native.Mathlib.Omega.{arith}
 use mathlib.Core.Path.{◌≡◌, refl, sym, ap, ap₂, ◌∙◌}
@@ -21,16 +21,6 @@ use Rattle.samples.proofs.RoundTrip.{within_length}
 use Rattle.samples.proofs.Spread.{at_add, at_before, below_append, spread_below, spread_length}
 use Rattle.saved.specs.Saved.{saved_bytes, set_of}
 use Rattle.saved.specs.declared.saved.Saved.{Saved}
-
--- one byte more at the low end; past the end all bytes are zero
-pub number_from_lem : (bs : List ℕ) (i k : ℕ) → number (take (suc k) (drop i bs)) ≡ get_or bs i 0 + 256 * number (take k (drop (suc i) bs))
-unfolding number
-number_from_lem [] zero zero = refl
-number_from_lem [] zero (suc k) = refl
-number_from_lem [] (suc i) zero = refl
-number_from_lem [] (suc i) (suc k) = refl
-number_from_lem (b ∷ bs) zero k = refl
-number_from_lem (b ∷ bs) (suc i) k = number_from_lem bs i k
 
 -- bytes are their own low bytes
 pub bytes_own : (bs : List ℕ) → ((i : ℕ) → get_or bs i 0 < 256) → map byte_of bs ≡ bs

@@ -1,53 +1,55 @@
 // A saved set: the sixteen counters and their three control registers, in 88 bytes.
-ghost use Rattle.std.specs.Prelude.{◌≡◌, map, leb, get_or, length, ◌≤◌};
+ghost use Rattle.std.specs.Prelude.{◌≡◌, map, leb, get_or, is_ok, length, ◌≤◌, ◌<◌, ◌^◌};
 ghost use Rattle.words.specs.Word.{byte_of};
 ghost use Rattle.samples.specs.Layout.{counter_widths};
 ghost use Rattle.samples.specs.Read.{gather};
 ghost use Rattle.saved.specs.Saved.{number_from, saved_bytes, saved_into, set_of};
 
+use counters::bank::each_value;
 use counters2::fields::Fields;
 use samples::sample::counter_byte;
 use words::byte::byte_at;
+use words::number::number_by;
 
 // Wide parts first: no padding (88 bytes).
-#[derive(Clone, Copy)]
+#[derive(Clone, Copy, PartialEq, Eq)]
 pub struct Saved {
     pub fields: Fields,
     pub values: [u32; 16],
 }
 
-// Puts a set at the start of a buffer that has room for it and leaves the rest; a shorter one it leaves all. Whether there was room.
-pub fn put(set: Saved, out: &mut [u8]) -> bool
-    ensures value { result ≡ leb 88 (length out.old) }
+// Why a set isn't put: the buffer is too short for it.
+#[derive(Clone, Copy, PartialEq, Eq)]
+pub struct Short;
+
+// Puts a set at the start of a buffer that has room for it and leaves the rest; a shorter one it leaves all.
+pub fn put(set: Saved, out: &mut [u8]) -> Result<(), Short>
+    ensures value { is_ok result ≡ leb 88 (length out.old) }
     ensures out_after { out.new ≡ saved_into set out.old }
 {
     if out.len() < 88 {
-        return false;
+        return Err(Short);
     }
-    let mut i = 0;
-    while i < 88 {
+    for i in 0..88 {
         out[i] = byte_of(set, i);
-        i += 1;
     }
-    true
+    Ok(())
 }
 
 // The byte at a place of a set, and 0 past its end.
 fn byte_of(set: Saved, place: usize) -> u8
     ensures { result ≡ get_or (saved_bytes set) place 0 }
 {
-    let values = set.values;
-    let fields = set.fields;
     if place < 64 {
-        return counter_byte(values, place);
+        return counter_byte(set.values, place);
     }
     if place < 72 {
-        return byte_at(fields.enable, place - 64);
+        return byte_at(set.fields.enable, place - 64);
     }
     if place < 80 {
-        return byte_at(fields.mode, place - 72);
+        return byte_at(set.fields.mode, place - 72);
     }
-    byte_at(fields.select, place - 80)
+    byte_at(set.fields.select, place - 80)
 }
 
 // The set that bytes give; where fewer than 88 are there, the others count as zero.
@@ -69,27 +71,16 @@ pub fn set_of(bytes: &[u8]) -> Saved
 fn counters_of(bytes: &[u8]) -> [u32; 16]
     ensures { result ≡ gather counter_widths (map byte_of bytes.now) }
 {
-    let mut values = [0u32; 16];
-    let mut i = 0;
-    while i < 16 {
-        values[i] = number_at(bytes, 4 * i, 4) as u32;
-        i += 1;
-    }
-    values
+    each_value([0; 16], |i, _| number_at(bytes, 4 * i, 4) as u32)
 }
 
 // The number of `size` bytes from `start` on, low byte first.
 fn number_at(bytes: &[u8], start: usize, size: usize) -> u64
     requires { (start ≤ 80) × (size ≤ 8) }
-    ensures { result ≡ number_from size start bytes.now }
+    ensures value { result ≡ number_from size start bytes.now }
+    ensures upper_bound { result < 256 ^ size }
 {
-    let mut sum = 0;
-    let mut left = size;
-    while 0 < left {
-        left -= 1;
-        sum = sum * 256 + byte_or_zero(bytes, start + left) as u64;
-    }
-    sum
+    number_by(size, |place| byte_or_zero(bytes, start + place))
 }
 
 // The byte at a place, and 0 past the end.
