@@ -15,9 +15,10 @@ unfoldable pub number : List ℕ → ℕ
 number [] = 0
 number (b ∷ bs) = b + 256 * number bs
 
--- x is the number of so many bytes, low first, where each is one that `at` has at its place
+-- x is the number of so many bytes, low first, each one that `at` has at its place
 pub record IsNumberBy (at : ℕ → ℕ → Type 0) (size x : ℕ) : Type 0 where
   pub bytes : List ℕ
   pub long : length bytes ≡ size
+  pub small : (place : ℕ) → get_or bytes place 0 < 256
   pub each : (place : ℕ) → place < size → at place (get_or bytes place 0)
   pub value : x ≡ number bytes
