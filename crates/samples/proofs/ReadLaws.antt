@@ -10,7 +10,7 @@ use Rattle.samples.specs.declared.reader.Refusal.{Refusal}
 use mathlib.Core.List.{List, [], ◌∷◌, map}
 use lib.Dec.{eqb, leb, eqb-suc-zero}
 use lib.ListN.{length, get_or, take, drop, replicate, drop_of_length-le, length-take, get_or-map}
-use lib.Seq.{drop-cons, drop-drop}
+use lib.Seq.{drop-cons, drop-drop, get_or-drop}
 use borrow.Author.Tests.{eq-eqb, eqb-true, ne_eqb}
 use Rattle.words.specs.Bytes.{number}
 use Rattle.words.specs.Word.{too_large, odd_ones, marked, byte_of}
@@ -98,6 +98,10 @@ scan_first (Some f) t rest e = absurd (false≢true e)
 -- the bytes of words are bytes
 pub map_below : (ws : List ℕ) (i : ℕ) → get_or (map byte_of ws) i 0 < 256
 map_below ws i = rw (get_or-map byte_of ws i 0) (mod-lt (get_or ws i 0) (zero-lt-suc 255))
+
+-- the byte of the word at a place, counted from a start
+pub byte_there : (start k : ℕ) (ws : List ℕ) → byte_of (get_or ws (start + k) 0) ≡ get_or (drop start (map byte_of ws)) k 0
+byte_there start k ws = sym (get_or-drop start (map byte_of ws) k 0 ∙ get_or-map byte_of ws (start + k) 0)
 
 -- one byte more at the low end
 pub number_step : (bs : List ℕ) (i k : ℕ) → i < length bs → number (take (suc k) (drop i bs)) ≡ get_or bs i 0 + 256 * number (take k (drop (suc i) bs))

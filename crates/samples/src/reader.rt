@@ -1,15 +1,15 @@
 // The reader: the first sample of a part of a stream.
-ghost use Rattle.std.specs.Prelude.{◌≡◌, ◌&&◌, cond, map, eqb, leb, suc, ◌+◌, ◌<◌, ◌≤◌, length, take, drop};
-ghost use Rattle.words.specs.Bytes.{number};
-ghost use Rattle.words.specs.Table.{parity_table};
+ghost use Rattle.std.specs.Prelude.{◌≡◌, ℕ, ◌*◌, get_or, ◌&&◌, cond, map, eqb, leb, suc, ◌+◌, ◌<◌, ◌≤◌, length, take, drop};
+ghost use Rattle.words.specs.Bytes.{IsNumberBy, number};
 ghost use Rattle.words.specs.Word.{byte_of};
 ghost use Rattle.samples.specs.Layout.{counter_widths, widths};
 ghost use Rattle.samples.specs.Read.{decided_at, fault_at, fault_number, found, gather, read_part, sample_of, scan, scanned, wanted};
 
 use super::edition::{Edition, stamp_bytes, trace_bytes, user_bytes};
 use super::sample::{Sample, is_resource, word_count};
-use words::parity::parities;
-use words::word::{byte, marked, odd_ones_by, too_large};
+use words::number::number_by;
+use words::table::Parities;
+use words::word::{byte, marked, too_large};
 
 // What is wrong with a part: too few words, though all are good, or its first bad word.
 #[derive(Clone, Copy, PartialEq, Eq)]
@@ -58,7 +58,7 @@ fn scan(part: &[u16], count: usize) -> Result<(), Refusal>
     requires { 0 < count }
     ensures { result ≡ scanned (scan count 0 part.now) (decided_at count 0 part.now) }
 {
-    let table = parities();
+    let table = Parities::new();
     // The words before the last, as far as they are there.
     let others = part.len().min(count - 1);
     for place in 0..others {
@@ -81,15 +81,14 @@ fn scan(part: &[u16], count: usize) -> Result<(), Refusal>
     }
 }
 
-// What is wrong with the word at a place of a sample that ends with it, or that doesn't, by the table of parity bits.
-fn fault_at(table: &[u8], place: usize, last: bool, word: u16) -> Option<Fault>
-    requires { table.now ≡ parity_table }
+// What is wrong with the word at a place of a sample that ends with it, or that doesn't.
+fn fault_at(table: &Parities, place: usize, last: bool, word: u16) -> Option<Fault>
     ensures { result ≡ fault_at (cond last (suc place) 0) place word }
 {
     if too_large(word) {
         return Some(Fault::TooLarge);
     }
-    if !odd_ones_by(table, word) {
+    if !table.odd_ones(word) {
         return Some(Fault::Parity);
     }
     if bad_header(place, word) {
@@ -105,7 +104,7 @@ fn fault_at(table: &[u8], place: usize, last: bool, word: u16) -> Option<Fault>
 fn bad_header(place: usize, word: u16) -> bool
     ensures { result ≡ (eqb place 0 && leb 32 (byte_of word)) }
 {
-    if place == 0 { 32 <= byte(word) } else { false }
+    place == 0 && 32 <= byte(word)
 }
 
 // The sample whose words stand at the start of the part.
@@ -141,13 +140,7 @@ fn counters_of(part: &[u16], start: usize) -> [u32; 16]
     requires { start + 64 ≤ length part.now }
     ensures { result ≡ gather counter_widths (drop start (map byte_of part.now)) }
 {
-    let mut counters = [0u32; 16];
-    let mut i = 0;
-    while i < 16 {
-        counters[i] = number_at(part, start + 4 * i, 4) as u32;
-        i += 1;
-    }
-    counters
+    counters_by(|place| byte(part[start + place]))
 }
 
 // The number that the bytes of `size` words from `start` on give, low byte first.
@@ -155,13 +148,19 @@ fn number_at(part: &[u16], start: usize, size: usize) -> u64
     requires { (start + size ≤ length part.now) × (size ≤ 8) }
     ensures { result ≡ number (take size (drop start (map byte_of part.now))) }
 {
-    let mut sum = 0;
-    let mut left = size;
-    while 0 < left {
-        left -= 1;
-        sum = sum * 256 + byte(part[start + left]) as u64;
+    number_by(size, |place| byte(part[start + place]))
+}
+
+// The sixteen counters, four bytes each and low byte first, where the byte at each place is what `byte` gives there.
+pub fn counters_by<F: Fn(usize) -> u8>(byte: F) -> [u32; 16]
+    requires { (place : ℕ) → place < 64 → F.pre byte place }
+    ensures { (i : ℕ) → i < 16 → IsNumberBy (λ place. F.post byte (4 * i + place)) 4 (get_or result i 0) }
+{
+    let mut counters = [0u32; 16];
+    for (i, counter) in counters.iter_mut().enumerate() {
+        *counter = number_by(4, |place| byte(4 * i + place)) as u32;
     }
-    sum
+    counters
 }
 
 // The number of a fault: document 01's 20 to 24.

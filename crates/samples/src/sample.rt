@@ -104,8 +104,7 @@ pub fn sample_byte(edition: Edition, sample: Sample, place: usize) -> u8
         );
     }
     if is_resource(sample.header) {
-        let counters = sample.counters;
-        return counter_byte(counters, place - first_counter);
+        return counter_byte(sample.counters, place - first_counter);
     }
     0
 }

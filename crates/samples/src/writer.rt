@@ -2,15 +2,13 @@
 ghost use Rattle.std.specs.Prelude.{◌≡◌, false, ◌++◌, map, leb, ◌+◌, ◌≤◌, ◌^◌, length, drop};
 ghost use Rattle.std.proofs.lemmas.List.Edits.{sets};
 ghost use Rattle.words.specs.Bytes.{low_bytes};
-ghost use Rattle.words.specs.Table.{parity_table};
 ghost use Rattle.words.specs.Word.{word_of};
 ghost use Rattle.samples.specs.Layout.{counter_bytes, field_bytes, field_widths, resource, sample_bytes, sample_length, sample_words, total, widths};
 ghost use Rattle.samples.specs.Write.{all_zero, writable, write_answer, write_buffer, written_row};
 
 use super::edition::{Edition, stamp_bytes, trace_bytes, user_bytes};
 use super::sample::{Sample, is_resource, word_count};
-use words::parity::parities;
-use words::word::word_by;
+use words::table::Parities;
 
 // The first numbers above the widths of Timestamp and user data.
 const TWO_40: u64 = 1 << 40;
@@ -34,7 +32,7 @@ pub fn write(edition: Edition, sample: Sample, out: &mut [u16]) -> Result<usize,
     ensures out_after { out.new ≡ write_buffer (widths edition) sample out.old }
 {
     // Taken out first: building it and looking at the sample go on side by side.
-    let table = parities();
+    let table = Parities::new();
     if !can_write(edition, sample) {
         return Err(WriteError::Unfit);
     }
@@ -59,11 +57,7 @@ pub fn can_write(edition: Edition, sample: Sample) -> bool
     if user_above(edition, sample.user) {
         return false;
     }
-    if is_resource(sample.header) {
-        return true;
-    }
-    let counters = sample.counters;
-    all_zero(counters)
+    is_resource(sample.header) || all_zero(sample.counters)
 }
 
 // Whether a Timestamp is above its width.
@@ -93,35 +87,30 @@ fn all_zero(counters: [u32; 16]) -> bool
 }
 
 // The sample's words, from the buffer's start: every byte's, and then the end mark on the last.
-fn fill(table: &[u8], edition: Edition, sample: Sample, count: usize, out: &mut [u16])
-    requires table_value { table.now ≡ parity_table }
+fn fill(table: &Parities, edition: Edition, sample: Sample, count: usize, out: &mut [u16])
     requires count_value { count ≡ sample_length (widths edition) (resource sample.header) }
     requires count_in_bounds { count ≤ length out.old }
     ensures { out.new ≡ sample_words (widths edition) sample ++ drop count out.old }
 {
     put_bytes(table, edition, sample, out);
     let last = count - 1;
-    out[last] = out[last] + 512;
+    out[last] += 512;
 }
 
 // The words of a sample's bytes, unmarked.
-fn put_bytes(table: &[u8], edition: Edition, sample: Sample, out: &mut [u16])
-    requires table_value { table.now ≡ parity_table }
+fn put_bytes(table: &Parities, edition: Edition, sample: Sample, out: &mut [u16])
     requires header_in_bounds { sample_length (widths edition) (resource sample.header) ≤ length out.old }
     ensures { out.new ≡ sets out.old 0 (map (word_of false) (sample_bytes (widths edition) sample)) }
 {
     put_fields(table, edition, sample, out);
-    let with_counters = is_resource(sample.header);
-    if with_counters {
-        let counters = sample.counters;
-        put_counters(table, counters, out, trace_bytes(edition));
+    if is_resource(sample.header) {
+        put_counters(table, sample.counters, out, trace_bytes(edition));
     }
 }
 
 // The words of the four fields that every sample has, unmarked. The longest field, the last, goes first: that is quicker where a table just
 // built is looked up (docs/PERFORMANCE.md).
-fn put_fields(table: &[u8], edition: Edition, sample: Sample, out: &mut [u16])
-    requires table_value { table.now ≡ parity_table }
+fn put_fields(table: &Parities, edition: Edition, sample: Sample, out: &mut [u16])
     requires edition_in_bounds { total (field_widths (widths edition)) ≤ length out.old }
     ensures { out.new ≡ sets out.old 0 (map (word_of false) (field_bytes (widths edition) sample.header sample.source sample.stamp sample.user)) }
 {
@@ -133,30 +122,24 @@ fn put_fields(table: &[u8], edition: Edition, sample: Sample, out: &mut [u16])
 }
 
 // The words of the sixteen counters, from a place on, unmarked.
-fn put_counters(table: &[u8], counters: [u32; 16], out: &mut [u16], start: usize)
-    requires table_value { table.now ≡ parity_table }
+fn put_counters(table: &Parities, counters: [u32; 16], out: &mut [u16], start: usize)
     requires start_in_bounds { start + 64 ≤ length out.old }
     ensures { out.new ≡ sets out.old start (map (word_of false) (counter_bytes counters)) }
 {
-    let mut i = 0;
-    while i < 16 {
-        put_number(table, counters[i] as u64, 4, out, start + 4 * i);
-        i += 1;
+    for (i, counter) in counters.iter().enumerate() {
+        put_number(table, *counter as u64, 4, out, start + 4 * i);
     }
 }
 
 // The words of the low bytes of a number, from a place on, unmarked.
-fn put_number(table: &[u8], number: u64, size: usize, out: &mut [u16], at: usize)
-    requires table_value { table.now ≡ parity_table }
+fn put_number(table: &Parities, number: u64, size: usize, out: &mut [u16], at: usize)
     requires size_in_bounds { at + size ≤ length out.old }
     ensures { out.new ≡ sets out.old at (map (word_of false) (low_bytes size number)) }
 {
     let mut rest = number;
-    let mut i = 0;
-    while i < size {
-        out[at + i] = word_by(table, (rest % 256) as u8, false);
+    for i in 0..size {
+        out[at + i] = table.word((rest % 256) as u8, false);
         rest /= 256;
-        i += 1;
     }
 }
 

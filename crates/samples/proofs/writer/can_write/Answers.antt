@@ -51,10 +51,10 @@ decided w s header source sixteen fit e_stamp stamp e_user user e_long =
 pub returns-then-is_resource : goal.returns-then-is_resource
 returns-then-is_resource c =
     let cs = c.args.sample.counters in
-    sym (decided (widths c.args.edition) c.args.sample (search rules) (search rules) (search rules) (λ i. (let f : Fits w32 (get_or cs i 0) = search rules in f.fits)) c.stamp_above.ensures c.if-stamp_above.false c.user_above.ensures c.if-user_above.false c.is_resource.ensures ∙ ap (λ (r : Bool). r || all_zero cs) c.if-is_resource.true)
+    c.if-is_resource.true
+    ∙ sym (decided (widths c.args.edition) c.args.sample (search rules) (search rules) (search rules) (λ i. (let f : Fits w32 (get_or cs i 0) = search rules in f.fits)) c.stamp_above.ensures c.if-stamp_above.false c.user_above.ensures c.if-user_above.false c.is_resource.ensures ∙ ap (λ (r : Bool). r || all_zero cs) c.if-is_resource.true)
 
-pub returns : goal.returns
-returns c =
-    let r = c in
-    let cs = r.args.sample.counters in
+pub returns-else-is_resource : goal.returns-else-is_resource
+returns-else-is_resource c =
+    let cs = c.args.sample.counters in
     sym (decided (widths c.args.edition) c.args.sample (search rules) (search rules) (search rules) (λ i. (let f : Fits w32 (get_or cs i 0) = search rules in f.fits)) c.stamp_above.ensures c.if-stamp_above.false c.user_above.ensures c.if-user_above.false c.is_resource.ensures ∙ ap (λ (b : Bool). b || all_zero cs) c.if-is_resource.false ∙ sym c.all_zero.ensures)

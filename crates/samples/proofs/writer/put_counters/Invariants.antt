@@ -1,8 +1,8 @@
 -- What holds at each turn of the loop.
-use Prim.Native.Nat.{ℕ, ◌+◌, ◌-◌, ◌*◌, ◌≤◌}
+use Prim.Native.Nat.{ℕ, ◌+◌, ◌-◌, ◌*◌}
 use mathlib.Core.Path.{◌≡◌}
 use mathlib.Core.List.{List}
-use lib.ListN.{length, drop, replicate}
+use lib.ListN.{drop, replicate}
 use lib.Seq.{sets}
 use Rattle.words.proofs.PutLaws.{plain}
 use Rattle.samples.specs.Layout.{counter_bytes, spread}
@@ -14,8 +14,4 @@ put l p n xs = sets l p (plain (spread (replicate n 4) xs))
 
 abbrev pub invariant-loop-i : goal.invariant-loop-i
 invariant-loop-i l =
-    (l.i ≤ 16) × (length l.out ≡ length l.initial.out)
-    × (sets l.initial.out l.start (plain (counter_bytes l.counters)) ≡ put l.out (l.start + 4 * l.i) (16 - l.i) (drop l.i l.counters))
-
-abbrev pub decreases-loop-i : goal.decreases-loop-i
-decreases-loop-i l = 16 - l.i
+    sets l.initial.out l.start (plain (counter_bytes l.counter-items)) ≡ put l.out (l.start + 4 * l.i) (16 - l.i) (drop l.i l.counter-items)

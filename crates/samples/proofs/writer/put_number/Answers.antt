@@ -1,17 +1,14 @@
 -- `samples::writer::put_number` meets its contract: at each turn what is left to put is the words of the rest's low bytes, from the next
 -- place on. Assumes nothing.
-use borrow.Author.Rules.{rules}
 use Prim.Native.Nat.{ℕ, suc, ◌+◌, ◌-◌, ◌/◌, ◌%◌}
-use native.Mathlib.Nat.{add-zero, sub-zero, mod-lt, zero-lt-suc}
+use native.Mathlib.Nat.{add-zero, sub-zero}
 use native.Mathlib.Omega.{arith}
 use mathlib.Core.Path.{◌≡◌, refl, sym, ap, ap₂, ◌∙◌}
 use mathlib.Core.Bool.{false}
 use mathlib.Core.List.{List}
-use lib.ListN.{set, length-set}
+use lib.ListN.{set}
 use Rattle.words.specs.Bytes.{low_bytes}
-use Rattle.words.specs.Table.{word_by}
 use Rattle.words.specs.Word.{word_of}
-use Rattle.words.proofs.TableLaws.{word_by_lem}
 use Rattle.samples.proofs.writer.put_number.Invariants.{put}
 use Rattle.samples.proofs.writer.put_number.Goals as goal
 
@@ -20,33 +17,20 @@ unfolding low_bytes
 put-suc l p n x = refl
 
 pub loop-i-init : goal.loop-i-init
-loop-i-init c = (search rules, refl, rw (add-zero, sub-zero))
-
-pub bounds-out-at : goal.bounds-out-at
-bounds-out-at c = omega arith
+loop-i-init c = rw (add-zero, sub-zero)
 
 pub loop-i-preserved : goal.loop-i-preserved
 loop-i-preserved c =
-    let s = c in
-    let a = s.args in
+    let a = c.args in
     let l = c.loop-i in
     let p = a.at + l.i in
     let n = a.size - (l.i + 1) in
     let more : a.size - l.i ≡ suc n = omega arith in
     let next : suc p ≡ a.at + (l.i + 1) = omega arith in
-    let here : c.word_by.result ≡ word_of false (l.rest % 256) =
-    c.word_by.ensures ∙ ap (λ (t : List ℕ). word_by t false (l.rest % 256)) s.requires.table_value
-    ∙ word_by_lem false (l.rest % 256) (mod-lt l.rest (zero-lt-suc 255)) in (
-      search rules,
-      length-set l.out p c.word_by.result ∙ l.invariant.1,
-      l.invariant.2
-          ∙ ap (λ (k : ℕ). put l.out p k l.rest) more
-          ∙ put-suc l.out p n l.rest
-          ∙ ap₂ (λ (w k : ℕ). put (set l.out p w) k n (l.rest / 256)) (sym here) next,
-    )
-
-pub shape_of-out : goal.shape_of-out
-shape_of-out c = c.loop-i.invariant.1
+    l.invariant
+    ∙ ap (λ (k : ℕ). put l.out p k l.rest) more
+    ∙ put-suc l.out p n l.rest
+    ∙ ap₂ (λ (w k : ℕ). put (set l.out p w) k n (l.rest / 256)) (sym c.word.ensures) next
 
 pub returns : goal.returns
 unfolding low_bytes
@@ -54,4 +38,4 @@ returns c =
     let a = c.args in
     let l = c.loop-i in
     let none : a.size - l.i ≡ 0 = omega arith in
-    sym (l.invariant.2 ∙ ap (λ (k : ℕ). put l.out (a.at + l.i) k l.rest) none)
+    sym (l.invariant ∙ ap (λ (k : ℕ). put l.out (a.at + l.i) k l.rest) none)

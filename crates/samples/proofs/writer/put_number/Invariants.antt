@@ -1,8 +1,7 @@
 -- What holds at each turn of the loop.
-use Prim.Native.Nat.{ℕ, ◌+◌, ◌-◌, ◌≤◌}
+use Prim.Native.Nat.{ℕ, ◌+◌, ◌-◌}
 use mathlib.Core.Path.{◌≡◌}
 use mathlib.Core.List.{List}
-use lib.ListN.{length}
 use lib.Seq.{sets}
 use Rattle.words.specs.Bytes.{low_bytes}
 use Rattle.words.proofs.PutLaws.{plain}
@@ -14,7 +13,4 @@ put l p n x = sets l p (plain (low_bytes n x))
 
 abbrev pub invariant-loop-i : goal.invariant-loop-i
 invariant-loop-i l =
-    (l.i ≤ l.size) × (length l.out ≡ length l.initial.out) × (put l.initial.out l.at l.size l.number ≡ put l.out (l.at + l.i) (l.size - l.i) l.rest)
-
-abbrev pub decreases-loop-i : goal.decreases-loop-i
-decreases-loop-i l = l.size - l.i
+    put l.initial.out l.at l.size l.number ≡ put l.out (l.at + l.i) (l.size - l.i) l.rest
