@@ -272,12 +272,13 @@ VERSIONS = {
     'counters_15_to_0': (
         "a Resource sample's counters are sent and read last first", in_samples({
             'src/sample.rt': [('counters[i] as u64', 'counters[15 - i] as u64')],
-            'src/writer.rt': [('counters[i] as u64', 'counters[15 - i] as u64')],
-            'src/reader.rt': [('start + 4 * i', 'start + (60 - 4 * i)'), ('specs.Read.{', 'specs.Read.{counters_in, '), READ_LAST_FIRST],
+            'src/writer.rt': [('*counter as u64', 'counters[15 - i] as u64')],
+            'src/reader.rt': [
+                ('    counters_by(|place| byte(part[start + place]))\n', '    let mut counters = counters_by(|place| byte(part[start + place]));\n    counters.reverse();\n    counters\n'), ('specs.Read.{', 'specs.Read.{counters_in, '), READ_LAST_FIRST],
             'specs/Layout.antt': [('Prelude.{', 'Prelude.{reverse, '), ('spread counter_widths counters', 'spread counter_widths (reverse counters)')],
             'specs/Read.antt': [('Prelude.{', 'Prelude.{reverse, '), READ_LAST_FIRST, ('-- the sample that', 'abbrev pub counters_in : List ℕ → List ℕ\ncounters_in bs = reverse (gather counter_widths bs)\n\n-- the sample that')],
             'proofs/Gather.antt': [
-                ('use lib.ListN.{', 'use Prim.Native.Nat.{◌+◌, ◌-◌}\nuse mathlib.Core.List.{reverse, reverse_aux}\nuse Rattle.std.proofs.lemmas.List.{get_or-reverse}\nuse lib.ListN.{'),
+                ('use lib.ListN.{', 'use Prim.Native.Nat.{◌-◌}\nuse mathlib.Core.List.{reverse, reverse_aux}\nuse Rattle.std.proofs.lemmas.List.{get_or-reverse}\nuse lib.ListN.{'),
                 ('(drop n bs) (drop_below n bs h))\n', '(drop n bs) (drop_below n bs h))\n' + REVERSE_LAWS)],
             'proofs/ReadLaws.antt': [('specs.Read.{', 'specs.Read.{counters_in, '), (*READ_LAST_FIRST, 3)],
             'proofs/SampleLaws.antt': [
@@ -293,20 +294,18 @@ VERSIONS = {
                 USES, ('s.counters (p - start) (zero-lt-suc 3) sixteen', '(reverse s.counters) (p - start) (zero-lt-suc 3) (length-reverse s.counters ∙ sixteen)'),
                 ('(get_or s.counters m 0) n) whole part', '(get_or (reverse s.counters) m 0) n) whole part ∙ ap (λ (x : ℕ). byte_at x k) (reverse_at s.counters (15 - i) i (omega arith))')],
             'proofs/reader/decode/Answers.antt': [USES, READ_LAST_FIRST],
-            'proofs/reader/counters_of/Invariants.antt': [('specs.Read.{', 'specs.Read.{counters_in, '), READ_LAST_FIRST],
             'proofs/reader/counters_of/Answers.antt': [
-                USES, ('Nat.{ℕ, ', 'Nat.{ℕ, ◌-◌, '), (*READ_LAST_FIRST, 2), ('.start + 4 * c.loop-i.i', '.start + (60 - 4 * c.loop-i.i)'),
-                ('let long : length all ≡ 16 = gather_length', 'let sixteen : length (gather counter_widths (drop start bytes)) ≡ 16 = gather_length counter_widths (drop start bytes) in\n    let long : length all ≡ 16 = length-reverse (gather counter_widths (drop start bytes)) ∙ gather_length'),
-                ('16 (gather_length', '16 (length-reverse (gather counter_widths (drop start bytes)) ∙ gather_length'),
-                ('start + 4 * i ≡ start + i * 4', 'start + (60 - 4 * i) ≡ start + (15 - i) * 4'), ('(i * 4)', '((15 - i) * 4)'), ('(gather_at 4 16 i', '(reverse_at (gather counter_widths (drop start bytes)) (15 - i) i (omega arith) ∙ gather_at 4 16 (15 - i)')],
+                ('use mathlib.Core.Path.{◌≡◌, ◌∙◌}', 'use mathlib.Core.Path.{◌≡◌, ap, ◌∙◌}'), ('List.{map}', 'List.{map, reverse}'),
+                ('gather_by c.counters_by.result', 'c.reverse.ensures ∙ ap reverse (gather_by c.counters_by-counters.result'), ('c.counters_by.ensures', 'c.counters_by-counters.ensures'), ('c.args.start (4 * i + k) c.args.part.now)', 'c.args.start (4 * i + k) c.args.part.now))')],
             'proofs/sample/counter_byte/Answers.antt': [
                 USES, ('Nat.{ℕ, ', 'Nat.{ℕ, ◌-◌, ◌/◌, '),
                 ('a.counters a.place (zero-lt-suc 3) (search rules)', '(reverse a.counters) a.place (zero-lt-suc 3) (length-reverse a.counters ∙ search rules)', 2),
                 ('rules))\n\n', 'rules) ∙ ap (λ (x : ℕ). byte_at x (a.place % 4)) (reverse_at a.counters (15 - a.place / 4) (a.place / 4) (search rules)))\n\n'), ('default a.counters 0 (search rules)', 'default (reverse a.counters) 0 (rw length-reverse (search rules))')],
-            'proofs/writer/put_counters/Invariants.antt': [('List.{List}', 'List.{List, reverse}'), ('(drop l.i l.counters)', '(drop l.i (reverse l.counters))')],
+            'proofs/writer/put_counters/Invariants.antt': [('List.{List}', 'List.{List, reverse}'), ('(counter_bytes l.counter-items)', '(counter_bytes l.counters)'), ('(drop l.i l.counter-items)', '(drop l.i (reverse l.counters))')],
             'proofs/writer/put_counters/Answers.antt': [
-                USES, ('lib.Seq.{', 'lib.Seq.{sets, '), ('let xs = a.counters in', 'let xs = reverse a.counters in'), ('length xs ≡ 16 = ', 'length xs ≡ 16 = length-reverse a.counters ∙ '), ('(drop l.i a.counters)', '(drop l.i (reverse a.counters))'),
-                ('c.put_number.ensures in', 'c.put_number.ensures ∙ ap (λ (x : ℕ). sets l.out p (plain (low_bytes 4 x))) (sym (reverse_at a.counters (15 - l.i) l.i (omega arith))) in')],
+                USES, ('lib.Seq.{', 'lib.Seq.{sets, '), ('use Rattle.samples.proofs.PutLaws', 'use Rattle.words.specs.Bytes.{low_bytes}\nuse Rattle.words.proofs.PutLaws.{plain}\nuse Rattle.samples.proofs.PutLaws'),
+                ('let xs = c.args.counters in', 'let xs = reverse c.args.counters in'), ('(drop-cons xs l.i 0 (omega arith))', '(drop-cons xs l.i 0 (omega (arith, length-reverse c.args.counters)))'), ('(drop l.i c.args.counters)', '(drop l.i (reverse c.args.counters))'),
+                ('(sym c.put_number.ensures j)', '(sym (c.put_number.ensures ∙ ap (λ (x : ℕ). sets l.out p (plain (low_bytes 4 x))) (sym (reverse_at c.args.counters (15 - l.i) l.i (omega arith)))) j)')],
         }), [], [('samples', 'in_counter')]),
     'hundredth_is_a_99th': (
         "document 02's Wish 2: at the hundredth a slow event falls on every 99th tick, and the bound of 15 goes with it", [
