@@ -27,12 +27,12 @@ use Rattle.walk.specs.declared.gap.Gap.{Gap}
 use Rattle.walk.specs.declared.Step.{Step}
 use Rattle.walk.specs.declared.Step.TheVariants.{End, Gap as Gapped, Whole}
 use Rattle.walk.specs.Pieces.{Boundary, EndsAt, end_answer, gap_answer, moved, sample_answer}
-use Rattle.walk.specs.Walk.{Answer, after_boundary, answer_at, skip, through, told}
+use Rattle.walk.specs.Walk.{Answer, after_boundary, answer_at, told}
 use Rattle.walk.proofs.BoundaryLaws.{after_ends, unmarked}
-use Rattle.walk.proofs.SkipLaws.{skip_gap, skip_none}
+use Rattle.walk.proofs.SkipLaws.{skip_gap}
 
 moved_moved : (m n : ℕ) (a : Answer) → moved (m + n) a ≡ moved m (moved n a)
-moved_moved m n a = λ i. record { sample = a.sample; next = add_assoc m n a.next i; decided = add_assoc m n a.decided i; skipped = a.skipped; number = a.number }
+moved_moved m n a = simp add_assoc
 
 -- a step is told by its own fields
 pub told_own : ((s : Sample) (next : ℕ) → told (Whole s next) ≡ sample_answer next s) × ((g : Gap) → ((told (Gapped g)).sample ≡ zero_sample) × ((told (Gapped g)).next ≡ g.next) × ((told (Gapped g)).decided ≡ g.decided) × ((told (Gapped g)).skipped ≡ g.skipped) × ((told (Gapped g)).number ≡ fault_number g.fault)) × ((place decided : ℕ) → told (End place decided) ≡ end_answer place decided)
@@ -93,41 +93,21 @@ module _ (w : Widths) (ws : List ℕ) (place : ℕ) where
   -- a sample, and the place after it
   pub answer_sample : r.number ≡ 0 → answer_at w ws place ≡ sample_answer (place + r.count) r.sample
   unfolding answer_at
-  answer_sample e =
-      let none : skip r rest ≡ 0 = skip_none r rest (omega (arith, e)) in
-      λ i.
-      record {
-        sample = r.sample;
-        next = place + (ap (λ (k : ℕ). r.count + k) none ∙ add-zero r.count) i;
-        decided = place + accepted_place w rest e i;
-        skipped = none i;
-        number = e i;
-      }
+  answer_sample e = simp (e, add-zero, accepted_place w rest e)
 
   -- 20
   pub answer_end : r.number ≡ 20 → answer_at w ws place ≡ end_answer place (place + length rest)
   unfolding answer_at
   answer_end e =
-      let none : skip r rest ≡ 0 = skip_none r rest (omega (arith, e)) in
       let nothing = refused_nothing w rest (ap (λ (n : ℕ). eqb n 0) e) in
-      let stays : place + (r.count + skip r rest) ≡ place = omega (arith, none, ap (λ (f : Found). f.count) nothing) in
-      λ i.
-      record {
-        sample = (nothing i).sample;
-        next = stays i;
-        decided = place + place_20 w rest e i;
-        skipped = none i;
-        number = e i;
-      }
+      simp (e, ap (λ (f : Found). f.sample) nothing, ap (λ (f : Found). f.count) nothing, place_20 w rest e, add-zero)
 
   -- a gap
   pub answer_gap : 21 ≤ r.number → answer_at w ws place ≡ gap_answer r.number place (place + r.place) (after_boundary rest r.place)
   unfolding answer_at
   answer_gap h =
       let nothing = refused_nothing w rest (ne_eqb r.number 0 (λ e. omega (arith, e, h))) in
-      let skips : skip r rest ≡ after_boundary rest r.place = skip_gap r rest h in
-      let ends : r.count + skip r rest ≡ after_boundary rest r.place = omega (arith, skips, ap (λ (f : Found). f.count) nothing) in
-      λ i. record { sample = (nothing i).sample; next = place + ends i; decided = place + r.place; skipped = skips i; number = r.number }
+      simp (skip_gap r rest h, ap (λ (f : Found). f.sample) nothing, ap (λ (f : Found). f.count) nothing, zero-add)
 
   -- the deciding word is one of the capture
   gap_there : 21 ≤ r.number → place + r.place < length ws
@@ -135,8 +115,7 @@ module _ (w : Widths) (ws : List ℕ) (place : ℕ) where
 
   -- the place after the boundary, from the capture's first word on
   pub after_moved : after_boundary ws (place + r.place) ≡ place + after_boundary rest r.place
-  after_moved =
-      ap (λ (l : List ℕ). place + r.place + through l) (sym (drop-drop r.place place ws)) ∙ add_assoc place r.place (through (drop r.place rest))
+  after_moved = simp (drop-drop, add_assoc)
 
   gap_end : 21 ≤ r.number → EndsAt ws (place + r.place) (place + after_boundary rest r.place)
   gap_end h = subst (EndsAt ws (place + r.place)) after_moved (after_ends ws (place + r.place) (gap_there h))
@@ -239,15 +218,7 @@ module _ (w : Widths) (ws : List ℕ) (place : ℕ) where
   -- on gives, with the place added; nothing before it matters
   pub fresh : answer_at w ws place ≡ moved place (answer_at w (drop place ws) 0)
   unfolding answer_at
-  fresh =
-      λ i.
-      record {
-        sample = r.sample;
-        next = place + sym (zero-add (r.count + skip r rest)) i;
-        decided = place + sym (zero-add r.place) i;
-        skipped = skip r rest;
-        number = r.number;
-      }
+  fresh = simp zero-add
 
 -- the words from the least of a place and the length on are those from the place on
 pub least_rest : (ws : List ℕ) (place start : ℕ) → start ≡ min place (length ws) → take (length ws - start) (drop start ws) ≡ drop place ws

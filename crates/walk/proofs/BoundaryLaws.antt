@@ -1,18 +1,18 @@
 -- Laws of boundaries: a word by its number alone, the place after the first one, and the same by places and numbers alone. By induction on the
 -- words that are left. Assumes nothing.
-use Prim.Native.Nat.{ℕ, zero, suc, ◌+◌, ◌-◌, ◌/◌, ◌%◌, ◌≤◌, ◌<◌}
+use Prim.Native.Nat.{ℕ, zero, suc, ◌+◌, ◌-◌, ◌≤◌, ◌<◌}
 use native.Mathlib.Nat.{add-zero}
 use native.Mathlib.Omega.{arith}
 use mathlib.Core.Path.{◌≡◌, refl, sym, ap, ◌∙◌, subst}
 use mathlib.Core.Logic.{◌↔◌}
-use mathlib.Core.Bool.{Bool, true, false, cond, ◌&&◌, false≢true}
+use mathlib.Core.Bool.{Bool, true, false, cond, false≢true}
 use mathlib.Core.List.{List, ◌∷◌}
-use lib.Dec.{leb, ltb}
+use lib.Dec.{ltb}
+use Rattle.std.proofs.lemmas.Bool.Decides.{nat_tests}
 use lib.ListN.{drop, get_or, length, drop_of_length-le}
 use lib.Seq.{drop-cons}
-use borrow.Author.Tests.{eq-eqb, eqb-true, le-leb, leb-true, ltb-false, ltb-true}
+use borrow.Author.Tests.{ltb-false, ltb-true}
 use Rattle.words.specs.Word.{marked}
-use Rattle.words.proofs.WordLaws.{both_left, both_right}
 use Rattle.walk.specs.Pieces.{Boundary, EndsAt}
 use Rattle.walk.specs.Walk.{after_boundary, is_boundary, through}
 
@@ -20,22 +20,11 @@ use Rattle.walk.specs.Walk.{after_boundary, is_boundary, through}
 
 -- a boundary by its number alone
 pub boundary_range : (x : ℕ) → is_boundary x ≡ true ↔ Boundary x
-boundary_range x = (there, back)
-  where
-    there : is_boundary x ≡ true → (512 ≤ x) × (x ≤ 1023)
-    there e =
-        let few : x ≤ 1023 = leb-true x 1023 (both_left (leb x 1023) (marked x) e) in
-        let mark : x / 512 % 2 ≡ 1 = eqb-true (x / 512 % 2) 1 (both_right (leb x 1023) (marked x) e) in
-        (omega arith, few)
-
-    back : (512 ≤ x) × (x ≤ 1023) → is_boundary x ≡ true
-    back h =
-        let mark : x / 512 % 2 ≡ 1 = omega (arith, h.0, h.1) in
-        λ i. le-leb x 1023 h.1 i && eq-eqb (x / 512 % 2) 1 mark i
+boundary_range x = grind (arith, nat_tests)
 
 -- so a word without the mark is none
 pub unmarked : (x : ℕ) → marked x ≡ false → Boundary x → ⊥
-unmarked x e at = false≢true (sym e ∙ both_right (leb x 1023) (marked x) ((boundary_range x).1 at))
+unmarked x e at = grind (arith, nat_tests)
 
 -- ---- the place after the first boundary, from a place on
 
@@ -106,9 +95,4 @@ not_before ws bad m n a b h =
     b.none (m - 1) (omega (arith, a.after)) (omega (arith, a.after, h)) (a.last (omega (arith, h, b.within)))
 
 pub ends_only : (ws : List ℕ) (bad m n : ℕ) → EndsAt ws bad m → EndsAt ws bad n → m ≡ n
-ends_only ws bad m n a b = go (ltb m n) refl (ltb n m) refl
-  where
-    go : (t : Bool) → ltb m n ≡ t → (u : Bool) → ltb n m ≡ u → m ≡ n
-    go true p u q = absurd (not_before ws bad m n a b (ltb-true m n p))
-    go false p true q = absurd (not_before ws bad n m b a (ltb-true n m q))
-    go false p false q = omega (arith, ltb-false m n p, ltb-false n m q)
+ends_only ws bad m n a b = omega (arith, not_before ws bad m n a b, not_before ws bad n m b a)

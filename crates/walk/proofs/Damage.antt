@@ -10,7 +10,7 @@ use lib.Dec.{eqb}
 use Rattle.std.proofs.lemmas.Grind.{flat_map-append}
 use lib.ListN.{length, length-append, get_or-append}
 use borrow.Author.Tests.{ne_eqb}
-use Rattle.samples.specs.Layout.{Widths, sample_words, zero_sample}
+use Rattle.samples.specs.Layout.{Widths, sample_words}
 use Rattle.samples.specs.Read.{Found, read_part}
 use Rattle.samples.specs.Write.{writable}
 use Rattle.samples.specs.declared.sample.Sample.{Sample}
@@ -70,16 +70,8 @@ piece_here w (damaged ws) rest fit = damaged_piece w ws rest fit
 
 -- with words before it
 piece_moved : (w : Widths) (n : ℕ) (p : Piece) → moved n (piece_answer w 0 p) ≡ piece_answer w n p
-piece_moved w n (sound s) = λ i. sample_answer (n + zero-add (length (sample_words w s)) i) s
-piece_moved w n (damaged ws) =
-    λ i.
-    record {
-      sample = zero_sample;
-      next = n + zero-add (length ws) i;
-      decided = n + zero-add (read_part w ws).place i;
-      skipped = length ws;
-      number = (read_part w ws).number;
-    }
+piece_moved w n (sound s) = simp zero-add
+piece_moved w n (damaged ws) = simp zero-add
 
 piece_at : (w : Widths) (front : List ℕ) (p : Piece) (rest : List ℕ) → Fit w p → answer_at w (front ++ (piece_words w p ++ rest)) (length front) ≡ piece_answer w (length front) p
 piece_at w front p rest fit =
@@ -221,9 +213,7 @@ unfolding samples_of sound_of piece_answers
 samples_given w n end [] fit = refl
 samples_given w n end (sound s ∷ ps) fit = ap (λ (l : List Sample). s ∷ l) (samples_given w (n + length (sample_words w s)) end ps fit.1)
 samples_given w n end (damaged ws ∷ ps) fit =
-    let rest : List Sample = samples_of (piece_answers w (n + length ws) ps ++ (end_answer end end ∷ [])) in
-    ap (λ (t : Bool). cond t (zero_sample ∷ rest) rest) (ne_eqb (read_part w ws).number 0 (λ e. omega (arith, e, fit.0.bad)))
-    ∙ samples_given w (n + length ws) end ps fit.1
+    simp (ne_eqb (read_part w ws).number 0 (λ e. omega (arith, e, fit.0.bad))) (samples_given w (n + length ws) end ps fit.1)
 
 pub walk_sound : (w : Widths) (ps : List Piece) → AllFit w ps → samples_of (walk w (laid w ps)) ≡ sound_of ps
 walk_sound w ps fit = ap samples_of (walk_laid w ps fit) ∙ samples_given w 0 (length (laid w ps)) ps fit

@@ -11,7 +11,7 @@ use lib.Dec.{eqb}
 use lib.ListN.{drop, length, take, take-append-drop}
 use lib.Seq.{drop-drop}
 use borrow.Author.Tests.{eqb-false, eqb-true, ne_eqb}
-use Rattle.samples.specs.Layout.{Widths, sample_words, zero_sample}
+use Rattle.samples.specs.Layout.{Widths}
 use Rattle.samples.specs.Read.{read_part}
 use Rattle.samples.proofs.Theorems.{accepted_words}
 use Rattle.walk.specs.Pieces.{all_words, ends_with20, gap_answer, stands_for}
@@ -91,9 +91,7 @@ walk_ends w ws =
 stands_gap : (w : Widths) (ws : List ℕ) (n place bad k : ℕ) → 21 ≤ n → stands_for w ws (gap_answer n place bad k) ≡ take k (drop place ws)
 unfolding stands_for
 stands_gap w ws n place bad k h =
-    ap (λ (t : Bool). cond t (sample_words w zero_sample) (cond (eqb n 20) (drop (place + k) ws) (take k (drop (place + k - k) ws)))) (ne_eqb n 0 (λ e. omega (arith, e, h)))
-    ∙ ap (λ (t : Bool). cond t (drop (place + k) ws) (take k (drop (place + k - k) ws))) (ne_eqb n 20 (λ e. omega (arith, e, h)))
-    ∙ ap (λ (j : ℕ). take k (drop j ws)) (add-sub_cancel place k)
+    simp (ne_eqb n 0 (λ e. omega (arith, e, h)), ne_eqb n 20 (λ e. omega (arith, e, h)), add-sub_cancel)
 
 module _ (w : Widths) (ws : List ℕ) (place : ℕ) where
   abbrev a : Answer
