@@ -48,7 +48,8 @@ answer_at w ws place =
       number = r.number;
     }
 
--- what the walk hands back, told so: where a sample's words end, and the next place is; the sample beside the others is all zeros
+-- what the walk hands back, told so: a sample was decided where its words end, and the next place is there; a gap and the end have zeros
+-- beside them
 abbrev pub told : Step → Answer
 told (Whole s next) = record { sample = s; next = next; decided = next; skipped = 0; number = 0 }
 told (Gap g) = record { sample = zero_sample; next = g.next; decided = g.decided; skipped = g.skipped; number = fault_number g.fault }

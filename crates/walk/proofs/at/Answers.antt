@@ -9,7 +9,7 @@ use lib.ListN.{drop, length, length-drop, take}
 use Rattle.samples.specs.Layout.{widths, zero_sample}
 use Rattle.samples.specs.Read.{Found, fault_number, read_part}
 use Rattle.samples.proofs.Decided.{place_within, place_20}
-use Rattle.samples.proofs.Theorems.{accepted_count}
+use Rattle.samples.proofs.Numbers.{count_within}
 use Rattle.walk.specs.Pieces.{end_answer, sample_answer}
 use Rattle.walk.specs.Walk.{after_boundary}
 use Rattle.walk.proofs.Answers.{after_moved, answer_end, answer_gap, answer_sample, gap_number, least_rest}
@@ -24,15 +24,14 @@ overflow_add-result c =
     let a = c.args in
     let ws = a.capture.now in
     let is = there a.edition ws a.place c.in-Ok.ensures c.min-start.ensures in
-    let size = accepted_count (widths a.edition) (drop a.place ws) (sym (ap (λ (f : Found). f.number) is)) in
-    record { fits = omega (arith, size.1, ap (λ (f : Found). f.count) is, length-drop a.place ws) }
+    omega (arith, ap (λ (f : Found). f.count) is, count_within (widths a.edition) (drop a.place ws), length-drop a.place ws)
 
 pub overflow_add-decided : goal.overflow_add-decided
 overflow_add-decided c =
     let a = c.args in
     let ws = a.capture.now in
     let is = there a.edition ws a.place c.in-Err.ensures c.min-start.ensures in
-    record { fits = omega (arith, ap (λ (f : Found). f.place) is, (place_within (widths a.edition) (drop a.place ws)).0, length-drop a.place ws) }
+    omega (arith, ap (λ (f : Found). f.place) is, (place_within (widths a.edition) (drop a.place ws)).0, length-drop a.place ws)
 
 pub returns-in-Ok : goal.returns-in-Ok
 returns-in-Ok c =
