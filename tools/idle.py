@@ -72,20 +72,19 @@ VERSIONS = {
         ], ['queue'], [('chip', 'rows_room')]),
     'loses_every_trace_trigger': (
         'every Trace trigger lacks room', [
-            ('crates/chip/src/chip.rt', 'if resource { self.queue.busy() } else { false }', 'if resource { self.queue.busy() } else { true }'),
+            ('crates/queue/src/queue.rt', 'resource && self.busy()', 'if resource { self.busy() } else { true }'),
+            ('crates/queue/src/queue.rt', 'ensures { result ≡ (resource && busy self) }', 'ensures { result ≡ cond resource (busy self) true }'),
+            ('crates/queue/src/queue.rt', '{◌≡◌, ◌&&◌, eqb, ', '{◌≡◌, true, eqb, '),
             ('crates/chip/specs/Chip.antt', 'blocked resource q = resource && busy q', 'blocked resource q = cond resource (busy q) true'),
             ('crates/chip/specs/Chip.antt', 'Bool, false, cond, ', 'Bool, true, false, cond, '),
-            ('crates/chip/proofs/chip/Chip/blocked/Answers.antt', 'use mathlib.Core.Bool.{Bool, ◌&&◌}', 'use mathlib.Core.Bool.{Bool, true, cond}'),
-            ('crates/chip/proofs/chip/Chip/blocked/Answers.antt', 'b && busy a.self.queue', 'cond b (busy a.self.queue) true'),
         ], [], [('chip', 'rows_room')]),
     'refuses_every_trigger': (
         'no processor lines are one line, so every trigger is answered with 4', [
-            ('crates/chip/src/chip.rt', 'u8::count_ones(lines) == 1', 'u8::count_ones(lines) == 9'),
+            ('crates/chip/src/line.rt', 'lines.count_ones() == 1', 'lines.count_ones() == 9'),
             ('crates/chip/specs/Chip.antt', 'one_line lines = eqb (ones_in 8 lines) 1', 'one_line lines = eqb (ones_in 8 lines) 9'),
-            ('crates/chip/proofs/chip/Chip/trigger/Answers.antt', '(sym (eq-eqb (ones_in 8 a.lines) 1', '(sym (eq-eqb (ones_in 8 a.lines) 9'),
-            ('crates/chip/proofs/chip/Chip/trigger/Answers.antt', '(sym (ne_eqb (ones_in 8 a.lines) 1', '(sym (ne_eqb (ones_in 8 a.lines) 9'),
-            ('crates/chip/proofs/chip/Chip/trigger/Answers.antt', '(eq-eqb (ones_in 8 lines) 1', '(eq-eqb (ones_in 8 lines) 9'),
-            ('crates/chip/proofs/chip/Chip/trigger/Answers.antt', 'lines-eq1', 'lines-eq9', 6),
+            ('crates/chip/proofs/line/Line/of/Answers.antt', 'eq-eqb (ones_in 8 lines) 1', 'eq-eqb (ones_in 8 lines) 9', 2),
+            ('crates/chip/proofs/line/Line/of/Answers.antt', 'ne_eqb (ones_in 8 lines) 1', 'ne_eqb (ones_in 8 lines) 9'),
+            ('crates/chip/proofs/line/Line/of/Answers.antt', 'lines-eq1', 'lines-eq9', 6),
             ('crates/chip/proofs/LineLaws.antt', 'ones_in 8 lines ≡ 1 = eqb-true (ones_in 8 lines) 1 e', 'ones_in 8 lines ≡ 9 = eqb-true (ones_in 8 lines) 9 e'),
             ('crates/chip/proofs/LineLaws.antt', 'ap (λ (n : ℕ). eqb n 1) (sym (ones_low 8 lines))', 'ap (λ (n : ℕ). eqb n 9) (sym (ones_low 8 lines))'),
         ], [], [('chip', 'one_line_lem')]),
@@ -107,14 +106,12 @@ VERSIONS = {
         ], [], [('queue', 'words_first')]),
     'counters_taken_when_sent': (
         "a Resource sample's counters are those of the moment at which its words are sent", [
-            ('crates/chip/src/chip.rt', 'let shadows = self.bank.shadows;', 'let shadows = self.bank.values;', 2),
+            ('crates/chip/src/chip.rt', *SENT, 2),
             ('crates/chip/specs/Chip.antt', *SENT, 3),
             ('crates/chip/specs/Table.antt', *SENT),
             ('crates/chip/specs/Sent.antt', 'held_sample c.bank.shadows', 'held_sample c.bank.values'),
             ('crates/chip/proofs/Refusals.antt', *SENT),
             ('crates/chip/proofs/TableLaws.antt', *SENT, 5),
-            ('crates/chip/proofs/chip/Chip/send_by/Answers.antt', *SENT),
-            ('crates/chip/proofs/chip/Chip/send_into/Answers.antt', *SENT, 2),
             ('crates/chip/proofs/Sends.antt', *SENT, 33),
             ('crates/chip/proofs/Bounds.antt', *SENT, 2),
             ('crates/chip/proofs/Words.antt', 'within_length counter_widths c.bank.shadows s.shadows', 'within_length counter_widths c.bank.values s.values'),
@@ -144,19 +141,17 @@ VERSIONS = {
         'a buffer send writes its words and returns the Timestamp for their number', [
             ('crates/chip/src/chip.rt', 'return self.done(sent.count);', 'return self.done(self.stamp);'),
             ('crates/chip/specs/Chip.antt', 'done s.count (with_queue s.queue c)', 'done c.stamp (with_queue s.queue c)'),
-            ('crates/chip/proofs/chip/Chip/send_into/Answers.antt', 'done r.count (with_queue r.queue s)', 'done s.stamp (with_queue r.queue s)'),
         ], [], [('chip', 'fill_answer')]),
     'same_word_again': (
         'every field of a sample is 0, so that all words are the same but for the end mark', [
             ('crates/chip/src/chip.rt', 'user: bits % TWO_48,', 'user: bits % 1,'),
             ('crates/chip/src/chip.rt', 'stamp: self.stamp % TWO_40,', 'stamp: self.stamp % 1,'),
-            ('crates/chip/src/chip.rt', 'source: self.source(line as usize),', 'source: self.source(line as usize) % 1,'),
+            ('crates/chip/src/chip.rt', 'source: self.source(line.number as usize),', 'source: self.source(line.number as usize) % 1,'),
             ('crates/control/src/control.rt', 'u32::from(line) + 8', 'u32::from(line) % 1 + 8'),
             ('crates/chip/specs/Chip.antt', 'user = bits % 2 ^ 48;', 'user = bits % 1;'),
             ('crates/chip/specs/Chip.antt', 'stamp = c.stamp % 2 ^ 40;', 'stamp = c.stamp % 1;'),
             ('crates/chip/specs/Chip.antt', 'source = get_or c.sources line 0;', 'source = get_or c.sources line 0 % 1;'),
             ('crates/control/specs/Control.antt', 'header_of line resource lost = line + 8', 'header_of line resource lost = line % 1 + 8'),
-            ('crates/chip/proofs/chip/Chip/sample_now/Answers.antt', 'user = a.bits % 2 ^ 48; stamp = a.self.stamp % 2 ^ 40; source = c.source.ensures i;', 'user = a.bits % 1; stamp = a.self.stamp % 1; source = c.source.ensures i % 1;'),
             ('crates/chip/proofs/Words.antt', '(within_at 4 8 c.sources s.sources line) (omega arith)', '(omega arith) (omega arith)'),
         ], ['control', 'chip'], [('history', 'header_same'), ('marked', 'marked_examples')]),
     'waits_and_overruns_exchanged': (
@@ -210,7 +205,7 @@ VERSIONS = {
         ], ['control', 'chip', 'marked'], [('history', 'header_same')]),
     'every_sample_of_line_0': (
         "a sample has line 0's number and Source Address, whatever the line", [
-            ('crates/chip/src/chip.rt', 'self.sample_now(resource, line, bits)', 'self.sample_now(resource, 0, bits)'),
+            ('crates/chip/src/chip.rt', 'self.sample_now(resource, line, bits)', 'self.sample_now(resource, Line { number: 0 }, bits)'),
             ('crates/chip/specs/Chip.antt', 'queue = pushed (sample_now resource line bits c)', 'queue = pushed (sample_now resource 0 bits c)'),
             ('crates/chip/specs/Sent.antt', '(sample_now resource line bits c)', '(sample_now resource 0 bits c)'),
             ('crates/chip/proofs/Bounds.antt', 'let sample : Held = sample_now r line bits c in', 'let sample : Held = sample_now r 0 bits c in'),
@@ -235,11 +230,9 @@ VERSIONS = {
         ], [], [('counters', 'selects_field')]),
     'every_send_answered_5': (
         'at most 8 are held, so every single send is answered with 5', [
-            ('crates/chip/src/chip.rt', '    held == 0\n', '    held <= 8\n'),
+            ('crates/chip/src/chip.rt', 'if self.queue.is_empty() {', 'if self.queue.held <= 8 {'),
             ('crates/chip/specs/Chip.antt', ', ltb, eqb, get_or, ', ', leb, ltb, eqb, get_or, '),
             ('crates/chip/specs/Chip.antt', 'none_held held = eqb held 0', 'none_held held = leb held 8'),
-            ('crates/chip/proofs/chip/Chip/send_by/Answers.antt', 'use mathlib.Core.Bool.{Bool}', 'use Prim.Native.Nat.{◌<◌}\nuse native.Mathlib.Omega.{arith}\nuse mathlib.Core.Bool.{Bool}\nuse borrow.Author.Tests.{ne_eqb, leb-false}'),
-            ('crates/chip/proofs/chip/Chip/send_by/Answers.antt', 's.bank.shadows s.queue some)', 's.bank.shadows s.queue (let many : 8 < s.queue.held = leb-false s.queue.held 8 some in ne_eqb s.queue.held 0 (λ q. omega arith)))'),
         ], [], [('chip', 'all_rows')]),
     'every_value_0': (
         'the value of every reply 0 is 0, so every word sent and every count of a buffer send is', [

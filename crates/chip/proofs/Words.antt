@@ -10,11 +10,11 @@ use lib.Dec.{eqb, leb, ltb}
 use lib.ListN.{drop, length, replicate, take, length-drop}
 use lib.Seq.{length-take-le}
 use borrow.Author.Tests.{lt-ltb}
+use Rattle.std.specs.Prelude.{None}
 use Rattle.samples.specs.Layout.{counter_widths, resource, sample_length, sample_words, widths}
 use Rattle.samples.specs.declared.edition.Edition.TheVariants.{First}
 use Rattle.samples.specs.Read.{found_by, read_part}
 use Rattle.samples.specs.Write.{all_zero, within, writable}
-use Rattle.samples.specs.declared.reader.Verdict.TheVariants.{Good}
 use Rattle.samples.proofs.RoundTrip.{within_length}
 use Rattle.samples.proofs.SampleLaws.{sample_length_lem}
 use Rattle.samples.proofs.Theorems.{read_written, within_kind, zeros_kind}
@@ -82,10 +82,10 @@ module _ (r : Bool) (line bits : ℕ) (c : Chip) (small : line < 8) (s : Shaped 
       copy false e = s.shadows
 
   -- so the reader gives it back from its words, whatever comes after them
-  pub taken_read : (rest : List ℕ) → read_part (widths First) (sample_words (widths First) (taken_sample r line bits c) ++ rest) ≡ found_by Good (taken_sample r line bits c) (sample_length (widths First) r) (sample_length (widths First) r)
+  pub taken_read : (rest : List ℕ) → read_part (widths First) (sample_words (widths First) (taken_sample r line bits c) ++ rest) ≡ found_by None (taken_sample r line bits c) (sample_length (widths First) r) (sample_length (widths First) r)
   taken_read rest =
       read_written (widths First) (taken_sample r line bits c) rest taken_writable
-      ∙ ap (λ (k : Bool). found_by Good (taken_sample r line bits c) (sample_length (widths First) k) (sample_length (widths First) k)) (header_kind line small r c.control.lost)
+      ∙ ap (λ (k : Bool). found_by None (taken_sample r line bits c) (sample_length (widths First) k) (sample_length (widths First) k)) (header_kind line small r c.control.lost)
 
 -- ---- "0 .. sample taken"
 

@@ -1,15 +1,16 @@
 // The chip: one record by value, and each operation with the next record beside its reply.
-ghost use Rattle.std.specs.Prelude.{◌≡◌, cond, ◌<◌, ◌^◌, get_or, length, set};
-ghost use Rattle.counters.specs.Bank.{copied};
+ghost use Rattle.std.specs.Prelude.{◌≡◌, ◌<◌, ◌^◌, get_or, length, set};
 ghost use Rattle.chip.specs.Told.{told};
 ghost use Rattle.chip.specs.Table.{send_by};
-ghost use Rattle.chip.specs.Chip.{after_ticks, blocked, done, external_events, fresh, hard_reset, inside, node_ticks, none_held, read, read_at, read_counter, replied, sample_now, send, send_into, sent_buffer, soft_reset, take_sample, timestamp_ticks, trigger, trigger_by, fate_of, with_bank, with_choice, with_control, with_sources, with_stamp, with_switches, write, write_at};
+ghost use Rattle.chip.specs.Chip.{after_ticks, done, external_events, fresh, hard_reset, inside, node_ticks, read, read_at, read_counter, replied, sample_now, send, send_into, sent_buffer, soft_reset, take_sample, timestamp_ticks, trigger, trigger_by, fate_of, with_bank, with_choice, with_control, with_sources, with_stamp, with_switches, write, write_at};
 
+use super::line::Line;
 use super::place::{Place, find};
 use control::control::{Control, TWO_16, header_of};
-use control::reply::{Reply, value_of};
+use control::reply::Reply;
 use counters::bank::Bank;
 use counters::switches::{Kind, Switches};
+use queue::places::stored;
 use queue::queue::{Held, Queue};
 use samples::edition::Edition;
 use words::parity::parities;
@@ -23,7 +24,7 @@ const TWO_48: u64 = 1 << 48;
 const TWO_56: u64 = 1 << 56;
 
 // Wide parts first: no padding (400 bytes).
-#[derive(Clone, Copy)]
+#[derive(Clone, Copy, PartialEq, Eq)]
 pub struct Chip {
     pub stamp: u64,
     pub queue: Queue,
@@ -34,7 +35,7 @@ pub struct Chip {
 }
 
 // An answer: the next chip, the value and the reply.
-#[derive(Clone, Copy)]
+#[derive(Clone, Copy, PartialEq, Eq)]
 pub struct Answer {
     pub chip: Chip,
     pub value: u64,
@@ -74,12 +75,10 @@ impl Chip {
     pub fn inside(self) -> bool
         ensures { result ≡ inside self }
     {
-        let phase = self.switches.phase;
-        if self.switches.divisor() <= phase {
+        if self.switches.divisor() <= self.switches.phase {
             return false;
         }
-        let queue = self.queue;
-        queue.inside(Edition::First) & (self.stamp < TWO_56)
+        self.queue.inside(Edition::First) & (self.stamp < TWO_56)
     }
 
     // Done, with a value.
@@ -99,13 +98,14 @@ impl Chip {
     {
         Answer {
             chip: self,
-            value: value_of(reply),
+            value: reply.value(),
             reply,
         }
     }
 }
 
 impl Chip {
+    #[tactic(auto, unfolding(crate::specs::Chip::write))]
     pub fn write(self, address: u64, bits: u64, lines: u8) -> Answer
         ensures { told result ≡ write address bits lines self }
     {
@@ -115,6 +115,7 @@ impl Chip {
         self.replied(Reply::Outside)
     }
 
+    #[tactic(auto, unfolding(crate::specs::Chip::read))]
     pub fn read(self, address: u64) -> Answer
         ensures { told result ≡ read address self }
     {
@@ -124,6 +125,7 @@ impl Chip {
         self.replied(Reply::Outside)
     }
 
+    #[tactic(auto, unfolding(crate::specs::Chip::timestamp_ticks))]
     pub fn timestamp_ticks(self, count: u32) -> Answer
         ensures { told result ≡ timestamp_ticks count self }
     {
@@ -133,29 +135,30 @@ impl Chip {
         self.replied(Reply::Outside)
     }
 
+    #[tactic(auto, unfolding(crate::specs::Chip::node_ticks))]
     pub fn node_ticks(mut self, count: u32) -> Answer
         ensures { told result ≡ node_ticks count self }
     {
         if self.inside() {
-            let bank = self.bank.ticked(self.switches, Kind::Node, count);
-            self.bank = bank;
+            self.bank = self.bank.ticked(self.switches, Kind::Node, count);
             return self.done(0);
         }
         self.replied(Reply::Outside)
     }
 
+    #[tactic(auto, unfolding(crate::specs::Chip::external_events))]
     pub fn external_events(mut self, mask: u16) -> Answer
         ensures { told result ≡ external_events mask self }
     {
         if self.inside() {
-            let bank = self.bank.signalled(self.switches, mask);
-            self.bank = bank;
+            self.bank = self.bank.signalled(self.switches, mask);
             return self.done(0);
         }
         self.replied(Reply::Outside)
     }
 
     // The next word, if there is one.
+    #[tactic(auto, using(crate::proofs::TableLaws::send_by_lem))]
     pub fn send(self) -> Answer
         ensures { told result ≡ send self }
     {
@@ -165,32 +168,30 @@ impl Chip {
 
     // The same with the parity bits of a lent table, for whoever sends one word after another: `words::parity::parities` gives it. By
     // another table bit 8 is that table's.
+    #[tactic(auto, unfolding(crate::specs::Table::send_by))]
     pub fn send_by(mut self, table: &[u8]) -> Answer
         ensures { told result ≡ send_by table.now self }
     {
         if self.inside() {
-            if none_held(self.queue.held) {
+            if self.queue.is_empty() {
                 return self.replied(Reply::NoWord);
             }
-            let shadows = self.bank.shadows;
-            let sent = self.queue.send_by(table, Edition::First, shadows);
-            let queue = sent.queue;
-            self.queue = queue;
+            let sent = self.queue.send_by(table, Edition::First, self.bank.shadows);
+            self.queue = sent.queue;
             return self.done(sent.word as u64);
         }
         self.replied(Reply::Outside)
     }
 
     // As many words as the buffer has places or as are left.
+    #[tactic(auto, unfolding(crate::specs::Chip::send_into, crate::specs::Chip::sent_buffer))]
     pub fn send_into(mut self, out: &mut [u16]) -> Answer
         ensures result_value { told result ≡ send_into (length out.old) self }
         ensures out_after { out.new ≡ sent_buffer self out.old }
     {
         if self.inside() {
-            let shadows = self.bank.shadows;
-            let sent = self.queue.send_into(Edition::First, shadows, out);
-            let queue = sent.queue;
-            self.queue = queue;
+            let sent = self.queue.send_into(Edition::First, self.bank.shadows, out);
+            self.queue = sent.queue;
             return self.done(sent.count);
         }
         self.replied(Reply::Outside)
@@ -199,6 +200,7 @@ impl Chip {
 
 impl Chip {
     // A write, by what stands at the address.
+    #[tactic(auto, unfolding(crate::specs::Chip::write_at))]
     fn write_at(self, place: Place, bits: u64, lines: u8) -> Answer
         ensures { told result ≡ write_at place bits lines self }
     {
@@ -224,6 +226,7 @@ impl Chip {
     }
 
     // A read, by what stands at the address.
+    #[tactic(auto, unfolding(crate::specs::Chip::read_at))]
     fn read_at(self, place: Place) -> Answer
         ensures { told result ≡ read_at place self }
     {
@@ -277,19 +280,18 @@ impl Chip {
     fn sourced(mut self, index: usize, number: u32) -> Chip
         ensures { result ≡ with_sources (set self.sources index number) self }
     {
-        let sources = self.sources;
-        let next = stored(sources, index, number);
-        self.sources = next;
+        self.sources = stored(self.sources, index, number);
         self
     }
 
     fn source(self, index: usize) -> u32
         ensures { result ≡ get_or self.sources index 0 }
     {
-        if index < 8 { self.sources[index] } else { 0 }
+        self.sources.get(index).copied().unwrap_or(0)
     }
 
     // A counter through the shadows, or a wait, or no data.
+    #[tactic(auto, unfolding(crate::specs::Chip::read_counter))]
     fn read_counter(self, index: usize) -> Answer
         ensures { told result ≡ read_counter index self }
     {
@@ -309,31 +311,29 @@ impl Chip {
         ensures { result ≡ after_ticks count self }
     {
         let slow = self.switches.slow_events(count);
-        let bank = self.bank.ticked(self.switches, Kind::Slow, slow);
-        let switches = self.switches.ticking(count);
         self.stamp = (self.stamp + count as u64) % TWO_56;
-        self.bank = bank;
-        self.switches = switches;
+        self.bank = self.bank.ticked(self.switches, Kind::Slow, slow);
+        self.switches = self.switches.ticking(count);
         self
     }
 }
 
 impl Chip {
     // A trigger, by its line, the settings, the Filter and the room.
+    #[tactic(auto, unfolding(crate::specs::Chip::trigger))]
     fn trigger(self, resource: bool, level: usize, bits: u64, lines: u8) -> Answer
         ensures { told result ≡ trigger resource level bits lines self }
     {
-        if u8::count_ones(lines) == 1 {
-            let line = u8::trailing_zeros(lines);
-            return self.trigger_line(resource, level, bits, line);
+        match Line::of(lines) {
+            Some(line) => self.trigger_line(resource, level, bits, line),
+            None => self.replied(Reply::Lines),
         }
-        self.replied(Reply::Lines)
     }
 
     // The same, of a trigger with one active line.
-    fn trigger_line(self, resource: bool, level: usize, bits: u64, line: u32) -> Answer
-        requires { line < 8 }
-        ensures { told result ≡ trigger_by (fate_of resource level self) resource line bits self }
+    #[tactic(auto, unfolding(crate::specs::Chip::trigger_by))]
+    fn trigger_line(self, resource: bool, level: usize, bits: u64, line: Line) -> Answer
+        ensures { told result ≡ trigger_by (fate_of resource level self) resource line.number bits self }
     {
         let control = self.control;
         if !control.sampling {
@@ -343,7 +343,7 @@ impl Chip {
             return self.replied(Reply::Filtered);
         }
         let full = self.queue.full();
-        let blocked = self.blocked(resource);
+        let blocked = self.queue.blocked(resource);
         if full | blocked {
             if control.writewait {
                 return self.controlled(control.waited()).replied(Reply::Wait);
@@ -355,77 +355,26 @@ impl Chip {
         self.take(resource, line, bits).done(0)
     }
 
-    // Whether a Resource trigger finds the shadows busy.
-    fn blocked(self, resource: bool) -> bool
-        ensures { result ≡ blocked resource self.queue }
-    {
-        if resource { self.queue.busy() } else { false }
-    }
-
     // A sample is taken as the record stands.
-    fn take(mut self, resource: bool, line: u32, bits: u64) -> Chip
-        requires { line < 8 }
-        ensures { result ≡ take_sample resource line bits self }
+    fn take(mut self, resource: bool, line: Line, bits: u64) -> Chip
+        ensures { result ≡ take_sample resource line.number bits self }
     {
-        let sample = self.sample_now(resource, line, bits);
-        let queue = self.queue.pushed(sample);
-        let bank = self.shadowed(resource);
-        let control = self.control.taken();
-        self.queue = queue;
-        self.bank = bank;
-        self.control = control;
+        self.queue = self.queue.pushed(self.sample_now(resource, line, bits));
+        if resource {
+            self.bank = self.bank.copied();
+        }
+        self.control = self.control.taken();
         self
     }
 
-    fn shadowed(self, resource: bool) -> Bank
-        ensures { result ≡ cond resource (copied self.bank) self.bank }
-    {
-        if resource {
-            self.bank.copied()
-        } else {
-            self.bank
-        }
-    }
-
-    fn sample_now(self, resource: bool, line: u32, bits: u64) -> Held
-        requires { line < 8 }
-        ensures { result ≡ sample_now resource line bits self }
+    fn sample_now(self, resource: bool, line: Line, bits: u64) -> Held
+        ensures { result ≡ sample_now resource line.number bits self }
     {
         Held {
             user: bits % TWO_48,
             stamp: self.stamp % TWO_40,
-            source: self.source(line as usize),
-            header: header_of(line as u8, resource, self.control.lost),
+            source: self.source(line.number as usize),
+            header: header_of(line.number, resource, self.control.lost),
         }
     }
-}
-
-// Whether there is no word to send.
-fn none_held(held: usize) -> bool
-    ensures { result ≡ none_held held }
-{
-    held == 0
-}
-
-// The registers with a number stored at one of them. Every place is visited: with a computed one the compiler copies the whole record
-// at every operation (docs/PERFORMANCE.md).
-pub fn stored(mut sources: [u32; 8], at: usize, number: u32) -> [u32; 8]
-    ensures { result ≡ set sources at number }
-{
-    let mut i = 0;
-    while i < 8 {
-        let old = sources[i];
-        sources[i] = chosen(old, i == at, number);
-        i += 1;
-    }
-    sources
-}
-
-fn chosen(old: u32, yes: bool, new: u32) -> u32
-    ensures { result ≡ cond yes new old }
-{
-    if yes {
-        return new;
-    }
-    old
 }

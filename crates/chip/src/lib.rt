@@ -2,4 +2,5 @@
 #![tactic(auto)]
 
 pub mod chip;
+pub mod line;
 pub mod place;

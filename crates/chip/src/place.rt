@@ -25,34 +25,23 @@ pub enum Place {
     Trigger(bool, usize),
 }
 
+#[tactic(auto, unfolding(crate::specs::Place::place_of))]
 pub fn find(address: u64) -> Place
     ensures { result ≡ place_of address }
 {
-    if 127 < address {
-        return Place::Beyond;
+    match address {
+        0..=15 => register(address),
+        16..=23 => Place::Source((address - 16) as usize),
+        32..=47 => Place::Counter((address - 32) as usize),
+        96..=111 => Place::Trigger(false, (address - 96) as usize),
+        112..=127 => Place::Trigger(true, (address - 112) as usize),
+        0..=127 => Place::Nowhere,
+        _ => Place::Beyond,
     }
-    if 112 <= address {
-        return Place::Trigger(true, (address - 112) as usize);
-    }
-    if 96 <= address {
-        return Place::Trigger(false, (address - 96) as usize);
-    }
-    if 48 <= address {
-        return Place::Nowhere;
-    }
-    if 32 <= address {
-        return Place::Counter((address - 32) as usize);
-    }
-    if 24 <= address {
-        return Place::Nowhere;
-    }
-    if 16 <= address {
-        return Place::Source((address - 16) as usize);
-    }
-    register(address)
 }
 
 // The registers below 16.
+#[tactic(auto, unfolding(crate::specs::Place::register_of))]
 fn register(address: u64) -> Place
     ensures { result ≡ register_of address }
 {

@@ -10,11 +10,11 @@ use mathlib.Core.List.{List, ◌++◌}
 use lib.Dec.{leb}
 use lib.ListN.{drop, length, take, length-drop}
 use lib.Seq.{length-take-le}
+use Rattle.std.specs.Prelude.{None}
 use Rattle.samples.specs.Layout.{counter_widths, resource, sample_length, sample_words, widths}
 use Rattle.samples.specs.declared.edition.Edition.TheVariants.{Second}
 use Rattle.samples.specs.Read.{found_by, read_part}
 use Rattle.samples.specs.Write.{within, writable}
-use Rattle.samples.specs.declared.reader.Verdict.TheVariants.{Good}
 use Rattle.samples.proofs.RoundTrip.{within_length}
 use Rattle.samples.proofs.SampleLaws.{sample_length_lem}
 use Rattle.samples.proofs.Theorems.{read_written, within_kind, zeros_kind}
@@ -78,10 +78,10 @@ module _ (r : Bool) (line bits : ℕ) (c : Chip2) (small : line < 8) (h : inside
       copy false = s.shadows
 
   -- so the reader gives it back from its words, whatever comes after them
-  pub taken_read : (rest : List ℕ) → read_part (widths Second) (sample_words (widths Second) (taken_sample r line bits c) ++ rest) ≡ found_by Good (taken_sample r line bits c) (sample_length (widths Second) r) (sample_length (widths Second) r)
+  pub taken_read : (rest : List ℕ) → read_part (widths Second) (sample_words (widths Second) (taken_sample r line bits c) ++ rest) ≡ found_by None (taken_sample r line bits c) (sample_length (widths Second) r) (sample_length (widths Second) r)
   taken_read rest =
       read_written (widths Second) (taken_sample r line bits c) rest taken_writable
-      ∙ ap (λ (k : Bool). found_by Good (taken_sample r line bits c) (sample_length (widths Second) k) (sample_length (widths Second) k)) (header_kind line small r c.control.lost)
+      ∙ ap (λ (k : Bool). found_by None (taken_sample r line bits c) (sample_length (widths Second) k) (sample_length (widths Second) k)) (header_kind line small r c.control.lost)
 
 -- ---- "0 .. sample taken"
 

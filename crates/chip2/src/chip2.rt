@@ -1,20 +1,19 @@
 // The MultiKron II: one record by value, and each operation with the next record beside its reply.
-ghost use Rattle.std.specs.Prelude.{◌≡◌, cond, false, ◌<◌, ◌^◌, get_or, length, set};
-ghost use Rattle.counters.specs.Bank.{copied};
-ghost use Rattle.chip.specs.Chip.{blocked, none_held};
+ghost use Rattle.std.specs.Prelude.{◌≡◌, false, ◌<◌, ◌^◌, get_or, length, set};
 ghost use Rattle.chip2.specs.Place.{resets};
 ghost use Rattle.chip2.specs.Told.{told};
 ghost use Rattle.chip2.specs.Table.{send_by};
 ghost use Rattle.chip2.specs.Chip2.{after_nodes, after_ticks, configured_all, data_of, done, enabled_all, external_events, fate_of, fresh, given, hard_reset, inside, node_ticks, read, read_at, read_counter, replied, sample_now, send, send_into, sent_buffer, status_of, take_sample, timestamp_ticks, trigger, trigger_by, with_bank, with_control, with_fields, with_high, with_sources, with_stamp, write, write_at};
 
 use super::place::{Place, find};
-use chip::chip::stored;
+use chip::line::Line;
 use control::control::{Control, header_of, pair};
-use control::reply::{Reply, value_of};
+use control::reply::Reply;
 use counters::bank::Bank;
 use counters2::clocks::{Clocks, phase_after};
 use counters2::counts::{fired, loaded, restarted, signalled, ticked};
 use counters2::fields::Fields;
+use queue::places::stored;
 use queue::queue::{Held, Queue};
 use samples::edition::Edition;
 use words::parity::parities;
@@ -31,7 +30,7 @@ const ABOVE_32: u64 = 18446744069414584320;
 const ABOVE_56: u64 = 18374686479671623680;
 
 // Wide parts first (424 bytes, of which the last two are unused).
-#[derive(Clone, Copy)]
+#[derive(Clone, Copy, PartialEq, Eq)]
 pub struct Chip2 {
     pub stamp: u64,
     pub queue: Queue,
@@ -45,7 +44,7 @@ pub struct Chip2 {
 }
 
 // An answer: the next chip, the value and the reply.
-#[derive(Clone, Copy)]
+#[derive(Clone, Copy, PartialEq, Eq)]
 pub struct Answer {
     pub chip: Chip2,
     pub value: u64,
@@ -88,8 +87,7 @@ impl Chip2 {
     pub fn inside(self) -> bool
         ensures { result ≡ inside self }
     {
-        let queue = self.queue;
-        queue.inside(Edition::Second) & ((self.phase < 100) & (self.stamp < TWO_56))
+        self.queue.inside(Edition::Second) & ((self.phase < 100) & (self.stamp < TWO_56))
     }
 
     // Done, with a value.
@@ -117,7 +115,7 @@ impl Chip2 {
     {
         Answer {
             chip: self,
-            value: value_of(reply),
+            value: reply.value(),
             reply,
         }
     }
@@ -134,6 +132,7 @@ impl Chip2 {
 }
 
 impl Chip2 {
+    #[tactic(auto, unfolding(crate::specs::Chip2::write))]
     pub fn write(self, address: u64, bits: u64, lines: u8) -> Answer
         ensures { told result ≡ write address bits lines self }
     {
@@ -147,6 +146,7 @@ impl Chip2 {
         self.replied(Reply::Outside)
     }
 
+    #[tactic(auto, unfolding(crate::specs::Chip2::read))]
     pub fn read(self, address: u64) -> Answer
         ensures { told result ≡ read address self }
     {
@@ -157,6 +157,7 @@ impl Chip2 {
     }
 
     // Ticks of the Timestamp's clock, with the external lines that are high during all of them.
+    #[tactic(auto, unfolding(crate::specs::Chip2::timestamp_ticks))]
     pub fn timestamp_ticks(self, count: u32, levels: u16) -> Answer
         ensures { told result ≡ timestamp_ticks count levels self }
     {
@@ -167,6 +168,7 @@ impl Chip2 {
     }
 
     // Ticks of the node's clock, likewise.
+    #[tactic(auto, unfolding(crate::specs::Chip2::node_ticks))]
     pub fn node_ticks(self, count: u32, levels: u16) -> Answer
         ensures { told result ≡ node_ticks count levels self }
     {
@@ -176,18 +178,19 @@ impl Chip2 {
         self.replied(Reply::Outside)
     }
 
+    #[tactic(auto, unfolding(crate::specs::Chip2::external_events))]
     pub fn external_events(mut self, mask: u16) -> Answer
         ensures { told result ≡ external_events mask self }
     {
         if self.inside() {
-            let bank = signalled(self.bank, self.fields, mask);
-            self.bank = bank;
+            self.bank = signalled(self.bank, self.fields, mask);
             return self.done(0);
         }
         self.replied(Reply::Outside)
     }
 
     // The next word, if there is one.
+    #[tactic(auto, using(crate::proofs::TableLaws::send_by_lem))]
     pub fn send(self) -> Answer
         ensures { told result ≡ send self }
     {
@@ -197,32 +200,34 @@ impl Chip2 {
 
     // The same with the parity bits of a lent table, for whoever sends one word after another: `words::parity::parities` gives it. By
     // another table bit 8 is that table's.
+    #[tactic(auto, unfolding(crate::specs::Table::send_by))]
     pub fn send_by(mut self, table: &[u8]) -> Answer
         ensures { told result ≡ send_by table.now self }
     {
         if self.inside() {
-            if none_held(self.queue.held) {
+            if self.queue.is_empty() {
                 return self.replied(Reply::NoWord);
             }
-            let shadows = self.bank.shadows;
-            let sent = self.queue.send_by(table, Edition::Second, shadows);
-            let queue = sent.queue;
-            self.queue = queue;
+            let sent = self
+                .queue
+                .send_by(table, Edition::Second, self.bank.shadows);
+            self.queue = sent.queue;
             return self.done(sent.word as u64);
         }
         self.replied(Reply::Outside)
     }
 
     // As many words as the buffer has places or as are left.
+    #[tactic(auto, unfolding(crate::specs::Chip2::send_into, crate::specs::Chip2::sent_buffer))]
     pub fn send_into(mut self, out: &mut [u16]) -> Answer
         ensures result_value { told result ≡ send_into (length out.old) self }
         ensures out_after { out.new ≡ sent_buffer self out.old }
     {
         if self.inside() {
-            let shadows = self.bank.shadows;
-            let sent = self.queue.send_into(Edition::Second, shadows, out);
-            let queue = sent.queue;
-            self.queue = queue;
+            let sent = self
+                .queue
+                .send_into(Edition::Second, self.bank.shadows, out);
+            self.queue = sent.queue;
             return self.done(sent.count);
         }
         self.replied(Reply::Outside)
@@ -231,6 +236,7 @@ impl Chip2 {
 
 impl Chip2 {
     // A write but a reset, by what stands at the address.
+    #[tactic(auto, unfolding(crate::specs::Chip2::write_at))]
     fn write_at(self, place: Place, bits: u64, lines: u8) -> Answer
         requires { resets place ≡ false }
         ensures { told result ≡ write_at place bits lines self }
@@ -258,6 +264,7 @@ impl Chip2 {
     }
 
     // A read, by what stands at the address.
+    #[tactic(auto, unfolding(crate::specs::Chip2::read_at))]
     fn read_at(self, place: Place) -> Answer
         requires { self.stamp < 2 ^ 56 }
         ensures { told result ≡ read_at place self }
@@ -314,8 +321,7 @@ impl Chip2 {
     fn configured(mut self, bits: u64) -> Chip2
         ensures { result ≡ configured_all bits self }
     {
-        let control = self.control.configured(bits);
-        self.control = control;
+        self.control = self.control.configured(bits);
         self.narrow = pair(bits / 16384 % 2 == 1, bits / 32768 % 2 == 1, self.narrow);
         self
     }
@@ -324,10 +330,8 @@ impl Chip2 {
     fn enabled(mut self, bits: u64) -> Chip2
         ensures { result ≡ enabled_all bits self }
     {
-        let fields = self.fields.enabling(bits);
-        let bank = restarted(self.bank, bits);
-        self.fields = fields;
-        self.bank = bank;
+        self.fields = self.fields.enabling(bits);
+        self.bank = restarted(self.bank, bits);
         self
     }
 
@@ -335,23 +339,20 @@ impl Chip2 {
     fn sourced(mut self, index: usize, number: u32) -> Chip2
         ensures { result ≡ with_sources (set self.sources index number) self }
     {
-        let sources = self.sources;
-        let next = stored(sources, index, number);
-        self.sources = next;
+        self.sources = stored(self.sources, index, number);
         self
     }
 
     fn source(self, index: usize) -> u32
         ensures { result ≡ get_or self.sources index 0 }
     {
-        if index < 8 { self.sources[index] } else { 0 }
+        self.sources.get(index).copied().unwrap_or(0)
     }
 
     fn shadow(self, index: usize) -> u32
         ensures { result ≡ get_or self.bank.shadows index 0 }
     {
-        let bank = self.bank;
-        if index < 16 { bank.shadows[index] } else { 0 }
+        self.bank.shadows.get(index).copied().unwrap_or(0)
     }
 
     // The CSR as it is read.
@@ -366,6 +367,7 @@ impl Chip2 {
     }
 
     // A counter through the shadows, or a wait, or no data.
+    #[tactic(auto, unfolding(crate::specs::Chip2::read_counter))]
     fn read_counter(self, index: usize) -> Answer
         ensures { told result ≡ read_counter index self }
     {
@@ -384,9 +386,8 @@ impl Chip2 {
         requires { self.stamp < 2 ^ 56 }
         ensures { result ≡ after_ticks count levels self }
     {
-        let bank = ticked(self.bank, self.fields, levels, Clocks::of_stamp(count));
         self.stamp = (self.stamp + count as u64) % TWO_56;
-        self.bank = bank;
+        self.bank = ticked(self.bank, self.fields, levels, Clocks::of_stamp(count));
         self
     }
 
@@ -394,34 +395,33 @@ impl Chip2 {
     fn after_nodes(mut self, count: u32, levels: u16) -> Chip2
         ensures { result ≡ after_nodes count levels self }
     {
-        let bank = ticked(
+        self.bank = ticked(
             self.bank,
             self.fields,
             levels,
             Clocks::of_node(self.phase, count),
         );
         self.phase = phase_after(self.phase, count);
-        self.bank = bank;
         self
     }
 }
 
 impl Chip2 {
     // A trigger, by its line, the settings, the Filter and the room.
+    #[tactic(auto, unfolding(crate::specs::Chip2::trigger))]
     fn trigger(self, resource: bool, level: usize, bits: u64, lines: u8) -> Answer
         ensures { told result ≡ trigger resource level bits lines self }
     {
-        if u8::count_ones(lines) == 1 {
-            let line = u8::trailing_zeros(lines);
-            return self.trigger_line(resource, level, bits, line);
+        match Line::of(lines) {
+            Some(line) => self.trigger_line(resource, level, bits, line),
+            None => self.replied(Reply::Lines),
         }
-        self.replied(Reply::Lines)
     }
 
     // The same, of a trigger with one active line.
-    fn trigger_line(self, resource: bool, level: usize, bits: u64, line: u32) -> Answer
-        requires { line < 8 }
-        ensures { told result ≡ trigger_by (fate_of resource level self) resource line bits self }
+    #[tactic(auto, unfolding(crate::specs::Chip2::trigger_by))]
+    fn trigger_line(self, resource: bool, level: usize, bits: u64, line: Line) -> Answer
+        ensures { told result ≡ trigger_by (fate_of resource level self) resource line.number bits self }
     {
         let control = self.control;
         if !control.sampling {
@@ -431,7 +431,7 @@ impl Chip2 {
             return self.replied(Reply::Filtered);
         }
         let full = self.queue.full();
-        let blocked = self.blocked(resource);
+        let blocked = self.queue.blocked(resource);
         if full | blocked {
             if control.writewait {
                 return self.controlled(control.waited()).replied(Reply::Wait);
@@ -443,54 +443,26 @@ impl Chip2 {
         self.take(resource, line, bits).done(0)
     }
 
-    // Whether a Resource trigger finds the shadows busy.
-    fn blocked(self, resource: bool) -> bool
-        ensures { result ≡ blocked resource self.queue }
-    {
-        if resource { self.queue.busy() } else { false }
-    }
-
     // A sample is taken as the record stands.
-    fn take(mut self, resource: bool, line: u32, bits: u64) -> Chip2
-        requires { line < 8 }
-        ensures { result ≡ take_sample resource line bits self }
+    fn take(mut self, resource: bool, line: Line, bits: u64) -> Chip2
+        ensures { result ≡ take_sample resource line.number bits self }
     {
-        let sample = self.sample_now(resource, line, bits);
-        let queue = self.queue.pushed(sample);
-        let bank = self.shadowed(resource);
-        let control = self.control.taken();
-        self.queue = queue;
-        self.bank = bank;
-        self.control = control;
+        self.queue = self.queue.pushed(self.sample_now(resource, line, bits));
+        if resource {
+            self.bank = self.bank.copied();
+        }
+        self.control = self.control.taken();
         self
     }
 
-    fn shadowed(self, resource: bool) -> Bank
-        ensures { result ≡ cond resource (copied self.bank) self.bank }
-    {
-        if resource {
-            self.bank.copied()
-        } else {
-            self.bank
-        }
-    }
-
-    fn sample_now(self, resource: bool, line: u32, bits: u64) -> Held
-        requires { line < 8 }
-        ensures { result ≡ sample_now resource line bits self }
+    fn sample_now(self, resource: bool, line: Line, bits: u64) -> Held
+        ensures { result ≡ sample_now resource line.number bits self }
     {
         Held {
             user: bits,
             stamp: self.stamp,
-            source: self.source(line as usize),
-            header: header_of(line as u8, resource, self.control.lost),
+            source: self.source(line.number as usize),
+            header: header_of(line.number, resource, self.control.lost),
         }
     }
-}
-
-// Whether there is no word to send.
-fn none_held(held: usize) -> bool
-    ensures { result ≡ none_held held }
-{
-    held == 0
 }

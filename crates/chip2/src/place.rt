@@ -28,34 +28,24 @@ pub enum Place {
     Trigger(bool, usize),
 }
 
+#[tactic(auto, unfolding(crate::specs::Place::place_of))]
 pub fn find(address: u64) -> Place
     ensures { result ≡ place_of address }
 {
-    if 127 < address {
-        return Place::Beyond;
+    match address {
+        0..=31 => register(address),
+        32..=39 => Place::Source((address - 32) as usize),
+        64..=79 => Place::Counter((address - 64) as usize),
+        80..=95 => Place::Shadow((address - 80) as usize),
+        96..=111 => Place::Trigger(false, (address - 96) as usize),
+        112..=127 => Place::Trigger(true, (address - 112) as usize),
+        0..=127 => Place::Nowhere,
+        _ => Place::Beyond,
     }
-    if 112 <= address {
-        return Place::Trigger(true, (address - 112) as usize);
-    }
-    if 96 <= address {
-        return Place::Trigger(false, (address - 96) as usize);
-    }
-    if 80 <= address {
-        return Place::Shadow((address - 80) as usize);
-    }
-    if 64 <= address {
-        return Place::Counter((address - 64) as usize);
-    }
-    if 40 <= address {
-        return Place::Nowhere;
-    }
-    if 32 <= address {
-        return Place::Source((address - 32) as usize);
-    }
-    register(address)
 }
 
 // The registers below 32.
+#[tactic(auto, unfolding(crate::specs::Place::register_of))]
 fn register(address: u64) -> Place
     ensures { result ≡ register_of address }
 {

@@ -1,17 +1,16 @@
 // Every address and every set of processor lines, each tried on the same record; equal answers are one line, `read 128..255: 1 0 same`.
-use super::same;
+use super::steps::tell;
 use chip::chip::{Answer, Chip};
-use control::reply::number_of;
+use control::reply::Reply;
 use printing::print;
+use std::ops::Range;
 
-// What is gone through.
-#[derive(Clone, Copy)]
-pub enum Trial {
-    Read,
-    // Data, and processor lines.
-    Write(u64, u8),
-    // Writes at an address, by their processor lines.
-    Lines(u64),
+// What is seen of an answer: the reply, the value, and whether the record stayed as it was.
+#[derive(Clone, Copy, PartialEq, Eq)]
+struct Outcome {
+    reply: Reply,
+    value: u64,
+    same: bool,
 }
 
 // Neighbours with the same answer that are not printed yet.
@@ -19,77 +18,53 @@ pub enum Trial {
 struct Span {
     first: u64,
     last: u64,
-    reply: u64,
-    value: u64,
-    same: bool,
+    outcome: Outcome,
 }
 
-// The answers at the addresses or lines from the first to the last one; the first is tried in any case.
-pub fn sweep(chip: Chip, kind: Trial, first: u64, last: u64) {
-    let mut span = span_at(chip, kind, first);
-    let mut at = first;
-    while at < last {
-        at += 1;
-        span = joined(kind, span, span_at(chip, kind, at));
+// The answers at the addresses or lines of a range.
+pub fn sweep<F: Fn(Chip, u64) -> Answer>(name: &[u8], chip: Chip, range: Range<u64>, answer_at: F)
+    requires { F.IsAlwaysCallable answer_at }
+{
+    let mut span = None;
+    for at in range {
+        span = joined(name, span, at, outcome_of(chip, answer_at(chip, at)));
     }
-    print(kind, span);
+    print(name, span);
 }
 
-fn span_at(chip: Chip, kind: Trial, at: u64) -> Span {
-    span_of(chip, at, answer_at(chip, kind, at))
-}
-
-fn answer_at(chip: Chip, kind: Trial, at: u64) -> Answer {
-    match kind {
-        Trial::Read => chip.read(at),
-        Trial::Write(bits, lines) => chip.write(at, bits, lines),
-        Trial::Lines(address) => chip.write(address, 0, (at % 256) as u8),
-    }
-}
-
-fn span_of(chip: Chip, at: u64, answer: Answer) -> Span {
-    let next = answer.chip;
-    let reply = answer.reply;
-    Span {
-        first: at,
-        last: at,
-        reply: number_of(reply),
+fn outcome_of(chip: Chip, answer: Answer) -> Outcome {
+    Outcome {
+        reply: answer.reply,
         value: answer.value,
-        same: same::same(chip, next),
+        same: chip == answer.chip,
     }
 }
 
-// One span of both, or the first is printed.
-fn joined(kind: Trial, before: Span, next: Span) -> Span {
-    if (before.reply == next.reply) & (before.value == next.value) & (before.same == next.same) {
-        return Span {
-            first: before.first,
-            last: next.last,
-            reply: before.reply,
-            value: before.value,
-            same: before.same,
-        };
+// One span with the neighbour, or what was held back is printed.
+fn joined(name: &[u8], before: Option<Span>, at: u64, outcome: Outcome) -> Option<Span> {
+    match before {
+        Some(span) if span.outcome == outcome => Some(Span { last: at, ..span }),
+        _ => {
+            print(name, before);
+            Some(Span {
+                first: at,
+                last: at,
+                outcome,
+            })
+        }
     }
-    print(kind, before);
-    next
 }
 
-fn print(kind: Trial, span: Span) {
-    name(kind);
-    print::field(b" ", span.first);
-    if span.first < span.last {
-        print::field(b"..", span.last);
-    }
-    print::field(b": ", span.reply);
-    print::field(b" ", span.value);
-    same::tell(span.same);
-    print::text(b"\n");
-}
-
-fn name(kind: Trial) {
-    match kind {
-        Trial::Read => print::text(b"read"),
-        Trial::Write(_, _) => print::text(b"write"),
-        Trial::Lines(_) => print::text(b"lines"),
+fn print(name: &[u8], span: Option<Span>) {
+    if let Some(span) = span {
+        print::text(name);
+        print::field(b" ", span.first);
+        if span.first < span.last {
+            print::field(b"..", span.last);
+        }
+        print::field(b": ", span.outcome.reply.number());
+        print::field(b" ", span.outcome.value);
+        tell(span.outcome.same);
+        print::text(b"\n");
     }
 }

@@ -1,6 +1,6 @@
 // Records to start from, made field by field.
 use chip::chip::Chip;
-use queue::queue::Held;
+use queue::queue::{Held, Queue};
 
 // A fresh chip with sampling on and level 0 let through.
 pub fn ready() -> Chip {
@@ -10,19 +10,15 @@ pub fn ready() -> Chip {
 // The same with discard chosen: a trigger without room is lost.
 pub fn discarding() -> Chip {
     let mut chip = ready();
-    let mut control = chip.control;
-    control.writewait = false;
-    chip.control = control;
+    chip.control.writewait = false;
     chip
 }
 
 // A fresh chip with sampling on and a Filter.
 pub fn filtering(filter: u16) -> Chip {
     let mut chip = Chip::fresh();
-    let mut control = chip.control;
-    control.sampling = true;
-    control.filter = filter;
-    chip.control = control;
+    chip.control.sampling = true;
+    chip.control.filter = filter;
     chip
 }
 
@@ -35,58 +31,46 @@ pub fn numbered() -> Chip {
         1047,
     ];
     chip.bank = bank;
-    let mut control = chip.control;
-    control.sampling = true;
-    control.readwait = true;
-    control.flagbusy = true;
-    control.filter = 1004;
-    control.wait = 1005;
-    control.overrun = 1006;
-    chip.control = control;
-    let mut switches = chip.switches;
-    switches.low = 1008;
-    switches.high = 1;
-    switches.enabled = 1011;
-    chip.switches = switches;
+    chip.control.sampling = true;
+    chip.control.readwait = true;
+    chip.control.flagbusy = true;
+    chip.control.filter = 1004;
+    chip.control.wait = 1005;
+    chip.control.overrun = 1006;
+    chip.switches.low = 1008;
+    chip.switches.high = 1;
+    chip.switches.enabled = 1011;
     chip.stamp = 1002;
     chip.sources = [1016, 1017, 1018, 1019, 1020, 1021, 1022, 1023];
     chip
 }
 
 // A chip with its Timestamp, or with its slow clock's phase and speed.
-pub fn stamped(before: Chip, stamp: u64) -> Chip {
-    let mut chip = before;
+pub fn stamped(mut chip: Chip, stamp: u64) -> Chip {
     chip.stamp = stamp;
     chip
 }
 
 pub fn phased(phase: u8, hundredth: bool) -> Chip {
     let mut chip = Chip::fresh();
-    let mut switches = chip.switches;
-    switches.phase = phase;
-    switches.hundredth = hundredth;
-    chip.switches = switches;
+    chip.switches.phase = phase;
+    chip.switches.hundredth = hundredth;
     chip
 }
 
 // A chip with its Wait and Overrun Counters.
-pub fn counted(before: Chip, wait: u32, overrun: u32) -> Chip {
-    let mut chip = before;
-    let mut control = chip.control;
-    control.wait = wait;
-    control.overrun = overrun;
-    chip.control = control;
+pub fn counted(mut chip: Chip, wait: u32, overrun: u32) -> Chip {
+    chip.control.wait = wait;
+    chip.control.overrun = overrun;
     chip
 }
 
 // A chip with all counters enabled, MUX SEL's halves, and every counter at its largest.
 pub fn brimful(high: u16, low: u16) -> Chip {
     let mut chip = Chip::fresh();
-    let mut switches = chip.switches;
-    switches.enabled = 65535;
-    switches.high = high;
-    switches.low = low;
-    chip.switches = switches;
+    chip.switches.enabled = 65535;
+    chip.switches.high = high;
+    chip.switches.low = low;
     let mut bank = chip.bank;
     bank.values = [4294967295; 16];
     chip.bank = bank;
@@ -102,10 +86,10 @@ pub fn queued(header: u32, held: usize, sent: usize) -> Chip {
         source: 0,
         header,
     };
-    let mut queue = chip.queue;
-    queue.places = [sample; 8];
-    queue.held = held;
-    queue.sent = sent;
-    chip.queue = queue;
+    chip.queue = Queue {
+        places: [sample; 8],
+        held,
+        sent,
+    };
     chip
 }

@@ -8,7 +8,6 @@ mod outside;
 mod queueing;
 mod registers;
 mod resets;
-mod same;
 mod sending;
 mod steps;
 mod waiting;

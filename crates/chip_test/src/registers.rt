@@ -1,16 +1,18 @@
 // The address map, and what each register keeps.
-use super::addresses::{Trial, sweep};
+use super::addresses::sweep;
 use super::{given, steps};
 use chip::chip::Chip;
 use printing::print;
 
 pub fn every_address() {
     print::heading(b"Every address, read on a fresh chip");
-    sweep(Chip::fresh(), Trial::Read, 0, 255);
+    sweep(b"read", Chip::fresh(), 0..256, |chip, at| chip.read(at));
     print::heading(b"Every address, written on a fresh chip with data 21 and lines 1");
-    sweep(Chip::fresh(), Trial::Write(21, 1), 0, 255);
+    sweep(b"write", Chip::fresh(), 0..256, |chip, at| {
+        chip.write(at, 21, 1)
+    });
     print::heading(b"Every address, read where each register has its own number");
-    sweep(given::numbered(), Trial::Read, 0, 48);
+    sweep(b"read", given::numbered(), 0..49, |chip, at| chip.read(at));
 }
 
 pub fn large_addresses() {
@@ -30,16 +32,24 @@ pub fn large_addresses() {
 
 pub fn every_line() {
     print::heading(b"Every set of lines, at 96 on a fresh chip");
-    sweep(Chip::fresh(), Trial::Lines(96), 0, 255);
+    sweep(b"lines", Chip::fresh(), 0..256, |chip, at| {
+        chip.write(96, 0, (at % 256) as u8)
+    });
     print::heading(b"Every set of lines, at 112 with sampling and level 0 on");
-    sweep(given::ready(), Trial::Lines(112), 0, 255);
+    sweep(b"lines", given::ready(), 0..256, |chip, at| {
+        chip.write(112, 0, (at % 256) as u8)
+    });
     print::heading(b"Lines count only for 96 to 127: two lines, with sampling and level 0 on");
-    sweep(given::ready(), Trial::Write(21, 3), 0, 129);
+    sweep(b"write", given::ready(), 0..130, |chip, at| {
+        chip.write(at, 21, 3)
+    });
 }
 
 pub fn every_level() {
     print::heading(b"Filter 32769: only levels 0 and 15 pass");
-    sweep(given::filtering(32769), Trial::Write(0, 1), 95, 128);
+    sweep(b"write", given::filtering(32769), 95..129, |chip, at| {
+        chip.write(at, 0, 1)
+    });
 }
 
 // Bits beyond a register's width.

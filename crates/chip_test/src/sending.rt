@@ -1,8 +1,15 @@
 // Sending into a lent buffer of 100 places, each marked 43690 before, and by a lent table of parity bits.
-use super::steps::Table;
 use super::{given, steps};
 use chip::chip::Chip;
 use printing::print;
+use words::parity::parities;
+
+// How a send is named by the table that it is lent.
+const OWN: &[u8] = b"send by the chip's table";
+
+const EMPTY: &[u8] = b"send by an empty table";
+
+const ONES: &[u8] = b"send by 256 ones";
 
 // A Trace sample: 16 words.
 fn one_held() -> Chip {
@@ -68,9 +75,9 @@ pub fn by_a_lent_table() {
     print::heading(b"Send by a lent table: a Trace sample held");
     let chip = one_held();
     steps::sends(chip, 16);
-    steps::sends_by(chip, Table::Own, 16);
-    steps::sends_by(chip, Table::Empty, 16);
-    let emptied = steps::sends_by(chip, Table::Ones, 16);
+    steps::sends_by(chip, OWN, &parities(), 16);
+    steps::sends_by(chip, EMPTY, &[], 16);
+    let emptied = steps::sends_by(chip, ONES, &[1; 256], 16);
     by_each(chip);
     print::heading(b"Send by a lent table: nothing held");
     by_each(emptied);
@@ -79,7 +86,7 @@ pub fn by_a_lent_table() {
 }
 
 fn by_each(chip: Chip) {
-    steps::send_by(chip, Table::Own);
-    steps::send_by(chip, Table::Empty);
-    steps::send_by(chip, Table::Ones);
+    steps::send_by(chip, OWN, &parities());
+    steps::send_by(chip, EMPTY, &[]);
+    steps::send_by(chip, ONES, &[1; 256]);
 }

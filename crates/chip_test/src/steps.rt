@@ -1,33 +1,25 @@
 // The chip's operations, each with a line of what was asked, the reply, the value, and whether the record is the same.
-ghost use Rattle.std.specs.Prelude.{◌≤◌, length};
-
-use super::same;
 use chip::chip::{Answer, Chip};
-use control::reply::number_of;
 use printing::print;
-use words::parity::parities;
-
-// The table of parity bits that a send is lent.
-#[derive(Clone, Copy)]
-pub enum Table {
-    // None: the plain send.
-    Unlent,
-    Own,
-    Empty,
-    Ones,
-}
 
 // The mark that a buffer is filled with before it is lent.
 const MARK: u16 = 43690;
 
+// Says whether an operation left the record as it was.
+pub fn tell(same: bool) {
+    if same {
+        print::text(b" same");
+    } else {
+        print::text(b" changed");
+    }
+}
+
 // The reply, the value and the record: the next chip.
 fn told(before: Chip, answer: Answer) -> Chip {
-    let next = answer.chip;
-    let reply = answer.reply;
-    print::field(b": ", number_of(reply));
+    print::field(b": ", answer.reply.number());
     print::field(b" ", answer.value);
-    same::tell(same::same(before, next));
-    next
+    tell(before == answer.chip);
+    answer.chip
 }
 
 fn line(before: Chip, answer: Answer) -> Chip {
@@ -52,7 +44,7 @@ fn name_speed(hundredth: bool) {
 pub fn write(chip: Chip, address: u64, bits: u64, lines: u8) -> Chip {
     print::field(b"write ", address);
     print::field(b" data ", bits);
-    print::field(b" lines ", lines as u64);
+    print::field(b" lines ", u64::from(lines));
     line(chip, chip.write(address, bits, lines))
 }
 
@@ -67,52 +59,36 @@ pub fn read(chip: Chip, address: u64) -> Chip {
 }
 
 pub fn timestamp_ticks(chip: Chip, count: u32) -> Chip {
-    print::field(b"Timestamp ticks ", count as u64);
+    print::field(b"Timestamp ticks ", u64::from(count));
     line(chip, chip.timestamp_ticks(count))
 }
 
 pub fn node_ticks(chip: Chip, count: u32) -> Chip {
-    print::field(b"node ticks ", count as u64);
+    print::field(b"node ticks ", u64::from(count));
     line(chip, chip.node_ticks(count))
 }
 
 pub fn external_events(chip: Chip, mask: u16) -> Chip {
-    print::field(b"external events ", mask as u64);
+    print::field(b"external events ", u64::from(mask));
     line(chip, chip.external_events(mask))
 }
 
 pub fn send(chip: Chip) -> Chip {
-    send_by(chip, Table::Unlent)
+    print::text(b"send");
+    line(chip, chip.send())
 }
 
-pub fn send_by(chip: Chip, table: Table) -> Chip {
-    name(table);
-    line(chip, answer_by(chip, table))
-}
-
-fn name(table: Table) {
-    match table {
-        Table::Unlent => print::text(b"send"),
-        Table::Own => print::text(b"send by the chip's table"),
-        Table::Empty => print::text(b"send by an empty table"),
-        Table::Ones => print::text(b"send by 256 ones"),
-    }
-}
-
-fn answer_by(chip: Chip, table: Table) -> Answer {
-    match table {
-        Table::Unlent => chip.send(),
-        Table::Own => chip.send_by(&parities()),
-        Table::Empty => chip.send_by(&[0; 0]),
-        Table::Ones => chip.send_by(&[1; 256]),
-    }
+// A send by a lent table of parity bits, which is named.
+pub fn send_by(chip: Chip, name: &[u8], table: &[u8]) -> Chip {
+    print::text(name);
+    line(chip, chip.send_by(table))
 }
 
 // The first `room` places of a buffer of 100 are lent, or all of them; the line has the whole buffer.
 pub fn send_into(chip: Chip, room: usize) -> Chip {
     let mut buffer = [MARK; 100];
-    let size = at_most_100(room);
-    let answer = send_first(chip, &mut buffer, size);
+    let size = room.min(100);
+    let answer = chip.send_into(&mut buffer[..size]);
     print::field(b"send into ", size as u64);
     let next = told(chip, answer);
     print::text(b", buffer");
@@ -121,70 +97,56 @@ pub fn send_into(chip: Chip, room: usize) -> Chip {
     next
 }
 
-fn at_most_100(n: usize) -> usize
-    ensures { result ≤ 100 }
-{
-    if n < 100 { n } else { 100 }
-}
-
-fn send_first(chip: Chip, buffer: &mut [u16], room: usize) -> Answer
-    requires { room ≤ length buffer.old }
-{
-    chip.send_into(&mut buffer[0..room])
-}
-
 // Single sends one after another, and their words; a refused one would show as the word 0.
 pub fn sends(chip: Chip, count: u64) -> Chip {
-    sends_by(chip, Table::Unlent, count)
+    print::text(b"send ");
+    times(chip, count, |chip| chip.send(), |answer| answer.value)
 }
 
-pub fn sends_by(chip: Chip, table: Table, count: u64) -> Chip {
-    name(table);
-    print::field(b" ", count);
-    print::text(b" times:");
-    let next = sent(chip, table, count);
-    print::text(b"\n");
-    next
-}
-
-fn sent(chip: Chip, table: Table, count: u64) -> Chip {
-    let mut state = chip;
-    let mut run = print::no_run();
-    let mut i = 0;
-    while i < count {
-        let answer = answer_by(state, table);
-        let next = answer.chip;
-        state = next;
-        run = print::add(run, answer.value);
-        i += 1;
-    }
-    print::end(run);
-    state
+pub fn sends_by(chip: Chip, name: &[u8], table: &[u8], count: u64) -> Chip {
+    print::text(name);
+    print::text(b" ");
+    times(
+        chip,
+        count,
+        |chip| chip.send_by(table),
+        |answer| answer.value,
+    )
 }
 
 // The same trigger some times by line 0, and the replies.
 pub fn triggers(chip: Chip, address: u64, count: u64) -> Chip {
     print::field(b"write ", address);
-    print::field(b" data 0 lines 1, ", count);
-    print::text(b" times:");
-    let next = triggered(chip, address, count);
-    print::text(b"\n");
-    next
+    print::text(b" data 0 lines 1, ");
+    times(
+        chip,
+        count,
+        |chip| chip.write(address, 0, 1),
+        |answer| answer.reply.number(),
+    )
 }
 
-fn triggered(chip: Chip, address: u64, count: u64) -> Chip {
+// A step some times, and a number of each answer; equal ones are a run.
+fn times<F: Fn(Chip) -> Answer, G: Fn(Answer) -> u64>(
+    chip: Chip,
+    count: u64,
+    step: F,
+    shown: G,
+) -> Chip
+    requires step_runs { F.IsAlwaysCallable step }
+    requires shown_runs { G.IsAlwaysCallable shown }
+{
+    print::number(count);
+    print::text(b" times:");
     let mut state = chip;
     let mut run = print::no_run();
-    let mut i = 0;
-    while i < count {
-        let answer = state.write(address, 0, 1);
-        let next = answer.chip;
-        let reply = answer.reply;
-        state = next;
-        run = print::add(run, number_of(reply));
-        i += 1;
+    for _ in 0..count {
+        let answer = step(state);
+        state = answer.chip;
+        run = print::add(run, shown(answer));
     }
     print::end(run);
+    print::text(b"\n");
     state
 }
 
@@ -192,17 +154,9 @@ fn triggered(chip: Chip, address: u64, count: u64) -> Chip {
 pub fn long_ticks(chip: Chip, times: u64) -> Chip {
     print::field(b"Timestamp ticks 4294967295, ", times);
     print::text(b" times\n");
-    ticked(chip, times)
-}
-
-fn ticked(chip: Chip, times: u64) -> Chip {
     let mut state = chip;
-    let mut i = 0;
-    while i < times {
-        let answer = state.timestamp_ticks(4294967295);
-        let next = answer.chip;
-        state = next;
-        i += 1;
+    for _ in 0..times {
+        state = state.timestamp_ticks(4294967295).chip;
     }
     state
 }
@@ -210,13 +164,11 @@ fn ticked(chip: Chip, times: u64) -> Chip {
 // Whether a record is a fresh chip's but for the Timestamp and the slow clock's speed, which it has to have.
 pub fn is_fresh(chip: Chip, stamp: u64, hundredth: bool) {
     let mut fresh = Chip::fresh();
-    let mut switches = fresh.switches;
-    switches.hundredth = hundredth;
-    fresh.switches = switches;
+    fresh.switches.hundredth = hundredth;
     fresh.stamp = stamp;
     print::field(b"beside a fresh chip with Timestamp ", stamp);
     name_speed(hundredth);
     print::text(b":");
-    same::tell(same::same(chip, fresh));
+    tell(chip == fresh);
     print::text(b"\n");
 }

@@ -1,5 +1,5 @@
 // The held samples, and sending them word by word. A Resource sample's counters stand in the shadows, which it keeps busy.
-ghost use Rattle.std.specs.Prelude.{◌≡◌, cond, ◌-◌, ◌<◌, get_or, length, set, take};
+ghost use Rattle.std.specs.Prelude.{◌≡◌, ◌&&◌, eqb, cond, ◌-◌, ◌<◌, get_or, length, set, take};
 ghost use Rattle.queue.specs.Queue.{advanced, any_resource, busy, empty_queue, first_count, full, held_sample, inside_queue, pushed, send_buffer, send_many, send_one, shifted, zero_held};
 ghost use Rattle.queue.specs.Table.{next_word_by, send_one_by};
 ghost use Rattle.samples.specs.Layout.{resource, sample_bytes, sample_length, widths};
@@ -67,6 +67,13 @@ impl Queue {
         8 <= self.held
     }
 
+    // Whether none is held, so that there is no word to send.
+    pub fn is_empty(self) -> bool
+        ensures { result ≡ eqb self.held 0 }
+    {
+        self.held == 0
+    }
+
     // Whether a Resource sample is held, which keeps the shadows.
     pub fn busy(self) -> bool
         ensures { result ≡ busy self }
@@ -81,6 +88,13 @@ impl Queue {
         false
     }
 
+    // Whether a trigger finds the shadows busy, which it asks only for a Resource sample.
+    pub fn blocked(self, resource: bool) -> bool
+        ensures { result ≡ (resource && busy self) }
+    {
+        resource && self.busy()
+    }
+
     // Whether the counts are ones that an operation can leave: at most eight held, fewer words of the first sent than it has, and none
     // sent where none is held.
     pub fn inside(self, edition: Edition) -> bool
@@ -89,7 +103,7 @@ impl Queue {
         if 8 < self.held {
             return false;
         }
-        if self.held == 0 {
+        if self.is_empty() {
             return self.sent == 0;
         }
         self.sent < self.first_count(edition)
@@ -114,6 +128,7 @@ impl Queue {
     }
 
     // The next word, and the queue after it: with a sample's last word its place is free. With nothing held the word is 0.
+    #[tactic(auto, using(crate::proofs::TableLaws::send_one_by_lem))]
     pub fn send(self, edition: Edition, shadows: [u32; 16]) -> Sent
         ensures { result ≡ send_one (widths edition) shadows self }
     {
@@ -125,7 +140,7 @@ impl Queue {
     pub fn send_by(self, table: &[u8], edition: Edition, shadows: [u32; 16]) -> Sent
         ensures { result ≡ send_one_by table.now (widths edition) shadows self }
     {
-        if self.held == 0 {
+        if self.is_empty() {
             return Sent {
                 queue: self,
                 word: 0,
@@ -146,7 +161,7 @@ impl Queue {
         let table = parities();
         let mut queue = self;
         for i in 0..out.len() {
-            if queue.held == 0 {
+            if queue.is_empty() {
                 return SentMany {
                     queue,
                     count: i as u64,
