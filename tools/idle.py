@@ -267,11 +267,11 @@ VERSIONS = {
             'src/sample.rt': [('counters[i] as u64', 'counters[15 - i] as u64')],
             'src/writer.rt': [('*counter as u64', 'counters[15 - i] as u64')],
             'src/reader.rt': [
-                ('    counters_by(|place| byte(part[start + place]))\n', '    let mut counters = counters_by(|place| byte(part[start + place]));\n    counters.reverse();\n    counters\n'), ('specs.Read.{', 'specs.Read.{counters_in, '), READ_LAST_FIRST],
+                ('    }\n    counters\n', '    }\n    counters.reverse();\n    counters\n'), ('specs.Read.{', 'specs.Read.{counters_in, '), READ_LAST_FIRST],
             'specs/Layout.antt': [('Prelude.{', 'Prelude.{reverse, '), ('spread counter_widths counters', 'spread counter_widths (reverse counters)')],
             'specs/Read.antt': [('Prelude.{', 'Prelude.{reverse, '), READ_LAST_FIRST, ('-- the sample that', 'abbrev pub counters_in : List ℕ → List ℕ\ncounters_in bs = reverse (gather counter_widths bs)\n\n-- the sample that')],
             'proofs/Gather.antt': [
-                ('use lib.ListN.{', 'use Prim.Native.Nat.{◌-◌}\nuse mathlib.Core.List.{reverse, reverse_aux}\nuse Rattle.std.proofs.lemmas.List.{get_or-reverse}\nuse lib.ListN.{'),
+                ('use lib.ListN.{', 'use Prim.Native.Nat.{◌+◌, ◌-◌}\nuse mathlib.Core.List.{reverse, reverse_aux}\nuse Rattle.std.proofs.lemmas.List.{get_or-reverse}\nuse lib.ListN.{'),
                 ('(drop n bs) (drop_below n bs h))\n', '(drop n bs) (drop_below n bs h))\n' + REVERSE_LAWS)],
             'proofs/ReadLaws.antt': [('specs.Read.{', 'specs.Read.{counters_in, '), (*READ_LAST_FIRST, 3)],
             'proofs/SampleLaws.antt': [
@@ -288,8 +288,7 @@ VERSIONS = {
                 ('(get_or s.counters m 0) n) whole part', '(get_or (reverse s.counters) m 0) n) whole part ∙ ap (λ (x : ℕ). byte_at x k) (reverse_at s.counters (15 - i) i (omega arith))')],
             'proofs/reader/decode/Answers.antt': [USES, READ_LAST_FIRST],
             'proofs/reader/counters_of/Answers.antt': [
-                ('use mathlib.Core.Path.{◌≡◌, ◌∙◌}', 'use mathlib.Core.Path.{◌≡◌, ap, ◌∙◌}'), ('List.{map}', 'List.{map, reverse}'),
-                ('gather_by c.counters_by.result', 'c.reverse.ensures ∙ ap reverse (gather_by c.counters_by-counters.result'), ('c.counters_by.ensures', 'c.counters_by-counters.ensures'), ('c.args.start (4 * i + k) c.args.part.now)', 'c.args.start (4 * i + k) c.args.part.now))')],
+                ('List.{List, map}', 'List.{List, map, reverse}'), ('gather_each c.loop', 'c.reverse.ensures ∙ ap reverse (gather_each c.loop'), ('(λ i h. c.loop-i.invariant i (omega arith))', '(λ i h. c.loop-i.invariant i (omega arith)))')],
             'proofs/sample/counter_byte/Answers.antt': [
                 USES, ('Nat.{ℕ, ', 'Nat.{ℕ, ◌-◌, ◌/◌, '),
                 ('a.counters a.place (zero-lt-suc 3) (search rules)', '(reverse a.counters) a.place (zero-lt-suc 3) (length-reverse a.counters ∙ search rules)', 2),

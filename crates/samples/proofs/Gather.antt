@@ -1,16 +1,15 @@
 -- Numbers gathered from bytes by their widths, and spread again: each undoes the other, over the widths. Assumes nothing.
-use Prim.Native.Nat.{ℕ, zero, suc, ◌+◌, ◌*◌, ◌^◌, ◌≤◌, ◌<◌}
+use Prim.Native.Nat.{ℕ, zero, suc, ◌*◌, ◌^◌, ◌≤◌, ◌<◌}
 use native.Mathlib.Nat.{zero-mul, suc-mul, add_comm, le_of_suc-le-suc, not-suc-le-zero, mod-eq_of_lt}
 use native.Mathlib.Omega.{arith}
 use mathlib.Core.Path.{◌≡◌, refl, sym, ap, ap₂, ◌∙◌, subst}
 use mathlib.Core.Bool.{Bool, true, ◌&&◌, false≢true}
 use mathlib.Core.List.{List, [], ◌∷◌, ◌++◌, append_assoc}
 use lib.ListN.{length, get_or, take, drop, replicate, length-drop}
-use lib.Seq.{ext_get_or, get_or-drop, drop-drop, take_at, drop_at, take-add, length-take-le}
+use lib.Seq.{ext_get_or, drop-drop, take_at, drop_at, take-add, length-take-le}
 use borrow.Author.Tests.{ltb-true, lt-ltb}
 use lib.Dec.{ltb}
-use Rattle.words.specs.Bytes.{IsNumberBy, low_bytes, number}
-use Rattle.words.proofs.NumberLaws.{number_is}
+use Rattle.words.specs.Bytes.{low_bytes, number}
 use Rattle.words.proofs.ByteLaws.{low_length, number_low, low_number}
 use Rattle.words.proofs.WordLaws.{both_left, both_right}
 use Rattle.samples.specs.Layout.{counter_widths, spread, total}
@@ -32,15 +31,13 @@ gather_at m (suc k) (suc i) bs h =
     gather_at m k i (drop m bs) (le_of_suc-le-suc h)
     ∙ ap (λ (l : List ℕ). number (take m l)) (drop-drop (i * m) m bs ∙ ap (λ (j : ℕ). drop j bs) (add_comm m (i * m) ∙ sym (suc-mul i m)))
 
--- sixteen numbers, each of the four bytes that a list has at its place, are those gathered from the list
-pub gather_by : {at : ℕ → ℕ → ℕ → Type 0} (xs bs : List ℕ) → length xs ≡ 16 → ((i : ℕ) → i < 16 → IsNumberBy (at i) 4 (get_or xs i 0)) → ((i k v : ℕ) → at i k v → v ≡ get_or bs (4 * i + k) 0) → xs ≡ gather counter_widths bs
-gather_by xs bs sixteen told same =
+-- sixteen numbers, each that of the four bytes at its place, are those gathered
+pub gather_each : (xs bs : List ℕ) → length xs ≡ 16 → ((i : ℕ) → i < 16 → get_or xs i 0 ≡ number (take 4 (drop (4 * i) bs))) → xs ≡ gather counter_widths bs
+gather_each xs bs sixteen each =
     ext_get_or 0 xs (gather counter_widths bs) (sixteen ∙ sym (gather_length counter_widths bs)) (λ i h.
     let there : i < 16 = subst (λ (n : ℕ). i < n) sixteen h in
     let place : 4 * i ≡ i * 4 = omega arith in
-    number_is {size = 4} (drop (4 * i) bs) (omega arith) (told i there) (λ k v j e. same i k v e ∙ sym (get_or-drop (4 * i) bs k 0))
-    ∙ ap (λ (n : ℕ). number (take 4 (drop n bs))) place
-    ∙ sym (gather_at 4 16 i bs there))
+    each i there ∙ ap (λ (n : ℕ). number (take 4 (drop n bs))) place ∙ sym (gather_at 4 16 i bs there))
 
 -- numbers within their widths are read back from their bytes, whatever comes after
 pub gather_spread : (ns xs rest : List ℕ) → within ns xs ≡ true → gather ns (spread ns xs ++ rest) ≡ xs

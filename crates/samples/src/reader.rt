@@ -1,6 +1,6 @@
 // The reader: the first sample of a part of a stream.
-ghost use Rattle.std.specs.Prelude.{◌≡◌, ℕ, ◌*◌, get_or, ◌&&◌, cond, map, eqb, leb, suc, ◌+◌, ◌<◌, ◌≤◌, length, take, drop};
-ghost use Rattle.words.specs.Bytes.{IsNumberBy, number};
+ghost use Rattle.std.specs.Prelude.{◌≡◌, ◌&&◌, cond, map, eqb, leb, suc, ◌+◌, ◌<◌, ◌≤◌, length, take, drop};
+ghost use Rattle.words.specs.Bytes.{number};
 ghost use Rattle.words.specs.Word.{byte_of};
 ghost use Rattle.samples.specs.Layout.{counter_widths, widths};
 ghost use Rattle.samples.specs.Read.{decided_at, fault_at, fault_number, found, gather, read_part, sample_of, scan, scanned, wanted};
@@ -117,21 +117,17 @@ fn decode(edition: Edition, part: &[u16]) -> Sample
     let stamp_size = stamp_bytes(edition);
     let stamp = number_at(part, 5, stamp_size);
     let user = number_at(part, 5 + stamp_size, user_bytes(edition));
-    if is_resource(header) {
-        return Sample {
-            user,
-            stamp,
-            source,
-            header,
-            counters: counters_of(part, trace_bytes(edition)),
-        };
-    }
+    let counters = if is_resource(header) {
+        counters_of(part, trace_bytes(edition))
+    } else {
+        [0; 16]
+    };
     Sample {
         user,
         stamp,
         source,
         header,
-        counters: [0; 16],
+        counters,
     }
 }
 
@@ -140,7 +136,11 @@ fn counters_of(part: &[u16], start: usize) -> [u32; 16]
     requires { start + 64 ≤ length part.now }
     ensures { result ≡ gather counter_widths (drop start (map byte_of part.now)) }
 {
-    counters_by(|place| byte(part[start + place]))
+    let mut counters = [0u32; 16];
+    for (i, counter) in counters.iter_mut().enumerate() {
+        *counter = number_at(part, start + 4 * i, 4) as u32;
+    }
+    counters
 }
 
 // The number that the bytes of `size` words from `start` on give, low byte first.
@@ -149,18 +149,6 @@ fn number_at(part: &[u16], start: usize, size: usize) -> u64
     ensures { result ≡ number (take size (drop start (map byte_of part.now))) }
 {
     number_by(size, |place| byte(part[start + place]))
-}
-
-// The sixteen counters, four bytes each and low byte first, where the byte at each place is what `byte` gives there.
-pub fn counters_by<F: Fn(usize) -> u8>(byte: F) -> [u32; 16]
-    requires { (place : ℕ) → place < 64 → F.pre byte place }
-    ensures { (i : ℕ) → i < 16 → IsNumberBy (λ place. F.post byte (4 * i + place)) 4 (get_or result i 0) }
-{
-    let mut counters = [0u32; 16];
-    for (i, counter) in counters.iter_mut().enumerate() {
-        *counter = number_by(4, |place| byte(4 * i + place)) as u32;
-    }
-    counters
 }
 
 // The number of a fault: document 01's 20 to 24.

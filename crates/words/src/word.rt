@@ -3,7 +3,8 @@ ghost use Rattle.std.specs.Prelude.{◌≡◌};
 ghost use Rattle.words.specs.Table.{odd_by, word_by};
 ghost use Rattle.words.specs.Word.{word_of, too_large, odd_ones, marked, byte_of};
 
-use super::parity::{parities, parity_by};
+use super::parity::parity_by;
+use super::table::Parities;
 
 // The word of a byte by a lent table of parity bits, with the end mark where it is the last one.
 pub fn word_by(table: &[u8], byte: u8, last: bool) -> u16
@@ -17,8 +18,7 @@ pub fn word_by(table: &[u8], byte: u8, last: bool) -> u16
 pub fn word(byte: u8, last: bool) -> u16
     ensures { result ≡ word_of last byte }
 {
-    let table = parities();
-    word_by(&table, byte, last)
+    Parities::new().word(byte, last)
 }
 
 // Whether a number of 16 bits is above 1023, more than ten bits hold.
@@ -40,8 +40,7 @@ pub fn odd_ones_by(table: &[u8], word: u16) -> bool
 pub fn odd_ones(word: u16) -> bool
     ensures { result ≡ odd_ones word }
 {
-    let table = parities();
-    odd_ones_by(&table, word)
+    Parities::new().odd_ones(word)
 }
 
 // Whether the end mark is set.

@@ -4,7 +4,6 @@ use Prim.Native.Nat.{◌+◌, ◌-◌}
 use native.Mathlib.Omega.{arith}
 use mathlib.Core.Path.{sym, ◌∙◌}
 use Rattle.samples.specs.Layout.{widths}
-use Rattle.samples.proofs.EditionLaws.{stamp_few}
 use Rattle.samples.proofs.SampleLaws.{at_field, at_none}
 use Rattle.samples.proofs.sample.field_byte.Goals as goal
 
@@ -19,30 +18,23 @@ returns-then-place-lt5 c =
     c.byte_at-then-place-lt5.ensures
     ∙ sym (at_field (widths a.edition) a.header a.source a.stamp a.user 1 a.place (a.place - 1) (search rules) (search rules))
 
-pub overflow_add-after_stamp : goal.overflow_add-after_stamp
-overflow_add-after_stamp c = omega (arith, c.stamp_bytes-after_stamp.ensures, stamp_few c.args.edition)
-
 pub returns-then-place-after_stamp : goal.returns-then-place-after_stamp
 returns-then-place-after_stamp c =
-    let d = c in
-    let a = d.args in
+    let a = c.args in
     c.byte_at-then-place-after_stamp.ensures
     ∙ sym
     (at_field (widths a.edition) a.header a.source a.stamp a.user 2 a.place (a.place - 5)
-    (omega (arith, d.stamp_bytes-after_stamp.ensures)) (omega arith))
+    (omega (arith, c.stamp_bytes-after_stamp.ensures)) (omega arith))
 
 pub returns-then-place-trace_bytes : goal.returns-then-place-trace_bytes
 returns-then-place-trace_bytes c =
-    let f = c in
-    let d = f in
-    let a = d.args in
+    let a = c.args in
     c.byte_at-then-place-trace_bytes.ensures
     ∙ sym
-    (at_field (widths a.edition) a.header a.source a.stamp a.user 3 a.place (a.place - (5 + d.stamp_bytes-after_stamp.result))
-    (omega (arith, d.stamp_bytes-after_stamp.ensures, f.trace_bytes.ensures)) (omega (arith, d.stamp_bytes-after_stamp.ensures)))
+    (at_field (widths a.edition) a.header a.source a.stamp a.user 3 a.place (a.place - (5 + c.stamp_bytes-after_stamp.result))
+    (omega (arith, c.stamp_bytes-after_stamp.ensures, c.trace_bytes.ensures)) (omega (arith, c.stamp_bytes-after_stamp.ensures)))
 
 pub returns : goal.returns
 returns c =
-    let f = c in
-    let a = f.args in
-    sym (at_none (widths a.edition) a.header a.source a.stamp a.user a.place (omega (arith, f.trace_bytes.ensures)))
+    let a = c.args in
+    sym (at_none (widths a.edition) a.header a.source a.stamp a.user a.place (omega (arith, c.trace_bytes.ensures)))

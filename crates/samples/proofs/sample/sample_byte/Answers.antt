@@ -8,25 +8,20 @@ use Rattle.samples.proofs.sample.sample_byte.Goals as goal
 
 pub returns-then-place-first_counter : goal.returns-then-place-first_counter
 returns-then-place-first_counter c =
-    let f = c in
-    let a = f.args in
-    c.field_byte.ensures ∙ sym (sample_before (widths a.edition) a.sample a.place (omega (arith, f.trace_bytes-first_counter.ensures)))
+    let a = c.args in
+    c.field_byte.ensures ∙ sym (sample_before (widths a.edition) a.sample a.place (omega (arith, c.trace_bytes-first_counter.ensures)))
 
 pub returns-then-is_resource : goal.returns-then-is_resource
 returns-then-is_resource c =
-    let r = c in
-    let f = r in
-    let a = f.args in
+    let a = c.args in
     c.counter_byte.ensures
     ∙ sym
-    (sample_after (widths a.edition) a.sample a.place f.trace_bytes-first_counter.result f.trace_bytes-first_counter.ensures (search rules)
-    (sym r.is_resource.ensures ∙ c.if-is_resource.true))
+    (sample_after (widths a.edition) a.sample a.place c.trace_bytes-first_counter.result c.trace_bytes-first_counter.ensures (search rules)
+    (sym c.is_resource.ensures ∙ c.if-is_resource.true))
 
 pub returns : goal.returns
 returns c =
-    let r = c in
-    let f = r in
-    let a = f.args in
+    let a = c.args in
     sym
-    (sample_trace (widths a.edition) a.sample a.place (omega (arith, f.trace_bytes-first_counter.ensures))
-    (sym r.is_resource.ensures ∙ c.if-is_resource.false))
+    (sample_trace (widths a.edition) a.sample a.place (omega (arith, c.trace_bytes-first_counter.ensures))
+    (sym c.is_resource.ensures ∙ c.if-is_resource.false))

@@ -21,40 +21,38 @@ returns-then-sample-ge32 c = let a = c.args in sym (refuse_header (widths a.edit
 
 pub returns-then-stamp_above : goal.returns-then-stamp_above
 returns-then-stamp_above c =
-    let l = c in
-    let a = l.args in
+    let a = c.args in
     sym
     (refuse_field (widths a.edition) a.sample 2
-    (leb-true (256 ^ (widths a.edition).stamp_bytes) a.sample.stamp (sym l.stamp_above.ensures ∙ c.if-stamp_above.true)))
+    (leb-true (256 ^ (widths a.edition).stamp_bytes) a.sample.stamp (sym c.stamp_above.ensures ∙ c.if-stamp_above.true)))
 
 pub returns-then-user_above : goal.returns-then-user_above
 returns-then-user_above c =
-    let u = c in
-    let a = u.args in
+    let a = c.args in
     sym
     (refuse_field (widths a.edition) a.sample 3
-    (leb-true (256 ^ (widths a.edition).user_bytes) a.sample.user (sym u.user_above.ensures ∙ c.if-user_above.true)))
+    (leb-true (256 ^ (widths a.edition).user_bytes) a.sample.user (sym c.user_above.ensures ∙ c.if-user_above.true)))
 
 -- counters of 32 bits are within their four bytes
 counters-fit : (cs : List ℕ) → length cs ≡ 16 → ((i : ℕ) → get_or cs i 0 < 2 ^ 32) → within counter_widths cs ≡ true
 counters-fit cs sixteen fit = within_each 4 16 cs sixteen fit
 
 -- what is tested before the counters leaves the answer to them
-decided : (w : Widths) (s : Sample) {stamp user long : Bool} → s.header < 32 → s.source < 2 ^ 32 → length s.counters ≡ 16 → ((i : ℕ) → get_or s.counters i 0 < 2 ^ 32) → stamp ≡ leb (256 ^ w.stamp_bytes) s.stamp → stamp ≡ false → user ≡ leb (256 ^ w.user_bytes) s.user → user ≡ false → long ≡ resource s.header → writable w s ≡ (long || all_zero s.counters)
+decided : (w : Widths) (s : Sample) {stamp user long : Bool} → s.header < 32 → s.source < 2 ^ 32 → length s.counters ≡ 16 → ((i : ℕ) → Fits w32 (get_or s.counters i 0)) → stamp ≡ leb (256 ^ w.stamp_bytes) s.stamp → stamp ≡ false → user ≡ leb (256 ^ w.user_bytes) s.user → user ≡ false → long ≡ resource s.header → (long || all_zero s.counters) ≡ writable w s
 decided w s header source sixteen fit e_stamp stamp e_user user e_long =
-    counters_decide w s header source
+    ap (λ (r : Bool). r || all_zero s.counters) e_long
+    ∙ sym
+    (counters_decide w s header source
     (leb-false (256 ^ w.stamp_bytes) s.stamp (sym e_stamp ∙ stamp))
     (leb-false (256 ^ w.user_bytes) s.user (sym e_user ∙ user))
-    (counters-fit s.counters sixteen fit)
-    ∙ ap (λ (r : Bool). r || all_zero s.counters) (sym e_long)
+    (counters-fit s.counters sixteen (λ i. (fit i).fits)))
 
 pub returns-then-is_resource : goal.returns-then-is_resource
 returns-then-is_resource c =
-    let cs = c.args.sample.counters in
     c.if-is_resource.true
-    ∙ sym (decided (widths c.args.edition) c.args.sample (search rules) (search rules) (search rules) (λ i. (let f : Fits w32 (get_or cs i 0) = search rules in f.fits)) c.stamp_above.ensures c.if-stamp_above.false c.user_above.ensures c.if-user_above.false c.is_resource.ensures ∙ ap (λ (r : Bool). r || all_zero cs) c.if-is_resource.true)
+    ∙ rw c.if-is_resource.true at (decided (widths c.args.edition) c.args.sample (search rules) (search rules) (search rules) (λ i. search rules) c.stamp_above.ensures c.if-stamp_above.false c.user_above.ensures c.if-user_above.false c.is_resource.ensures)
 
 pub returns-else-is_resource : goal.returns-else-is_resource
 returns-else-is_resource c =
-    let cs = c.args.sample.counters in
-    sym (decided (widths c.args.edition) c.args.sample (search rules) (search rules) (search rules) (λ i. (let f : Fits w32 (get_or cs i 0) = search rules in f.fits)) c.stamp_above.ensures c.if-stamp_above.false c.user_above.ensures c.if-user_above.false c.is_resource.ensures ∙ ap (λ (b : Bool). b || all_zero cs) c.if-is_resource.false ∙ sym c.all_zero.ensures)
+    c.all_zero.ensures
+    ∙ rw c.if-is_resource.false at (decided (widths c.args.edition) c.args.sample (search rules) (search rules) (search rules) (λ i. search rules) c.stamp_above.ensures c.if-stamp_above.false c.user_above.ensures c.if-user_above.false c.is_resource.ensures)

@@ -6,17 +6,11 @@ use Rattle.samples.proofs.writer.put_fields.Goals as goal
 
 pub returns : goal.returns
 returns c =
-    let three = c in
-    let two = three in
-    let one = two in
-    let us = one in
-    let st = us in
-    let a = st.args in
-    let s = a.sample in
+    let s = c.args.sample in
     c.put_number-4.ensures
-    ∙ put_all (widths a.edition) s.header s.source s.stamp s.user st.stamp_bytes-stamp_size.result us.user_bytes.result a.out.now _ _ _
-    st.stamp_bytes-stamp_size.ensures
-    us.user_bytes.ensures
-    one.put_number.ensures
-    two.put_number-2.ensures
-    three.put_number-3.ensures
+    ∙ put_all (widths c.args.edition) s.header s.source s.stamp s.user _ _ c.args.out.now _ _ _
+    c.stamp_bytes-stamp_size.ensures
+    c.user_bytes.ensures
+    c.put_number.ensures
+    c.put_number-2.ensures
+    c.put_number-3.ensures
