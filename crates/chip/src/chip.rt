@@ -330,7 +330,8 @@ impl Chip {
         }
     }
 
-    // The same, of a trigger with one active line.
+    // The same, of a trigger with one active line. One test after the other: by a match over the control's `fate`, as the MultiKron II has it,
+    // the compiler copies the whole record at every operation (docs/PERFORMANCE.md).
     #[tactic(auto, unfolding(crate::specs::Chip::trigger_by))]
     fn trigger_line(self, resource: bool, level: usize, bits: u64, line: Line) -> Answer
         ensures { told result ≡ trigger_by (fate_of resource level self) resource line.number bits self }

@@ -8,6 +8,7 @@ ghost use Rattle.chip2.specs.Chip2.{after_nodes, after_ticks, configured_all, da
 use super::place::{Place, find};
 use chip::line::Line;
 use control::control::{Control, header_of, pair};
+use control::fate::Fate;
 use control::reply::Reply;
 use counters::bank::Bank;
 use counters2::clocks::{Clocks, phase_after};
@@ -423,24 +424,17 @@ impl Chip2 {
     fn trigger_line(self, resource: bool, level: usize, bits: u64, line: Line) -> Answer
         ensures { told result ≡ trigger_by (fate_of resource level self) resource line.number bits self }
     {
-        let control = self.control;
-        if !control.sampling {
-            return self.replied(Reply::Off);
-        }
-        if !control.passes(level) {
-            return self.replied(Reply::Filtered);
-        }
         let full = self.queue.full();
         let blocked = self.queue.blocked(resource);
-        if full | blocked {
-            if control.writewait {
-                return self.controlled(control.waited()).replied(Reply::Wait);
-            }
-            return self
-                .controlled(control.overran(full, blocked))
-                .replied(Reply::Lost);
+        match self.control.fate(level, full, blocked) {
+            Fate::Off => self.replied(Reply::Off),
+            Fate::Filtered => self.replied(Reply::Filtered),
+            Fate::Wait => self.controlled(self.control.waited()).replied(Reply::Wait),
+            Fate::Lost => self
+                .controlled(self.control.overran(full, blocked))
+                .replied(Reply::Lost),
+            Fate::Taken => self.take(resource, line, bits).done(0),
         }
-        self.take(resource, line, bits).done(0)
     }
 
     // A sample is taken as the record stands.
