@@ -216,8 +216,8 @@ VERSIONS = {
         ], ['chip', 'marked'], [('history', 'by_fate_lem')]),
     'software_events_by_field_01': (
         'field 01 counts software events, 10 external ones', [
-            ('crates/counters/src/switches.rt', 'Kind::External => self.enabled & ((SIXTEEN_ONES - self.high) & self.low)', 'Kind::External => self.enabled & (self.high & (SIXTEEN_ONES - self.low))'),
-            ('crates/counters/src/switches.rt', 'Kind::Software => self.enabled & (self.high & (SIXTEEN_ONES - self.low))', 'Kind::Software => self.enabled & ((SIXTEEN_ONES - self.high) & self.low)'),
+            ('crates/counters/src/switches.rt', 'Kind::External => self.enabled & (!self.high & self.low)', 'Kind::External => self.enabled & (self.high & !self.low)'),
+            ('crates/counters/src/switches.rt', 'Kind::Software => self.enabled & (self.high & !self.low)', 'Kind::Software => self.enabled & (!self.high & self.low)'),
             ('crates/counters/src/switches.rt', 'return on & (high & !low);', 'return on & (!high & low);'),
             ('crates/counters/specs/Due.antt', 'selects External high low = not high && low', 'selects External high low = high && not low'),
             ('crates/counters/specs/Due.antt', 'selects Software high low = high && not low', 'selects Software high low = not high && low'),

@@ -3,7 +3,8 @@
 -- disables the counters of the set bits and sets the two bits of each MUX field, whose number says what counts. Assumes nothing.
 use Rattle.std.proofs.Common.{◌≡◌, ℕ, zero, suc, ◌+◌, ◌-◌, ◌*◌, ◌/◌, ◌%◌, ◌^◌, ◌<◌, ◌≤◌, min, max, Bool, false, cond, not, ◌&&◌, ◌||◌, eqb, length, get_or, sym, refl, ap, ◌∙◌, ap₂, lt_of_lt_of_le, le_of_suc-le-suc, not-suc-le-zero, mod-lt, zero-lt-suc, pow-suc, div-one, one-add, arith, pow_pos, pow_mono, shr-shr}
 use native.Mathlib.Nat.{div-eq_of_lt}
-use lib.Bits.{bit_and, bit_or, and_shr, and_step, or_shr, or_step}
+use Rattle.std.proofs.lemmas.Nat.Bits.{bit_at_and, bit_at_or}
+use lib.Bits.{bit_and, bit_or}
 use lib.Pow.{field, mod-mod-pow}
 use Rattle.counters.specs.Bank.{bit, cleared}
 use Rattle.counters.specs.Due.{disabling, due, due_mask, enabling, field_at, field_of, selecting, selects}
@@ -22,28 +23,20 @@ zero_one P p q (suc (suc n)) h = absurd (not-suc-le-zero (le_of_suc-le-suc (le_o
 both_zero_one : (P : ℕ → ℕ → Type 0) → P 0 0 → P 0 1 → P 1 0 → P 1 1 → (a b : ℕ) → a < 2 → b < 2 → P a b
 both_zero_one P p q r t a b h k = zero_one (λ (n : ℕ). P n b) (zero_one (P 0) p q b k) (zero_one (P 1) r t b k) a h
 
--- an operation that does f to two digits does g to two bits
-module _ (op f : ℕ → ℕ → ℕ) (g : Bool → Bool → Bool)
-    (shr : (a b k : ℕ) → op a b / 2 ^ k ≡ op (a / 2 ^ k) (b / 2 ^ k))
-    (digit : (a b : ℕ) → op a b % 2 ≡ f (a % 2) (b % 2))
-    (table : (a b : ℕ) → a < 2 → b < 2 → eqb (f a b) 1 ≡ g (eqb a 1) (eqb b 1)) where
-  bit_by_bit : (a b i : ℕ) → bit (op a b) i ≡ g (bit a i) (bit b i)
-  bit_by_bit a b i =
-      ap (λ (n : ℕ). eqb (n % 2) 1) (shr a b i)
-      ∙ ap (λ (n : ℕ). eqb n 1) (digit (a / 2 ^ i) (b / 2 ^ i))
-      ∙ table (a / 2 ^ i % 2) (b / 2 ^ i % 2) (mod-lt (a / 2 ^ i) (zero-lt-suc 1)) (mod-lt (b / 2 ^ i) (zero-lt-suc 1))
+digit_below : (x i : ℕ) → x / 2 ^ i % 2 < 2
+digit_below x i = mod-lt (x / 2 ^ i) (zero-lt-suc 1)
 
 -- what two numbers have in common
 pub bit_and_lem : (a b i : ℕ) → bit (bit_and a b) i ≡ (bit a i && bit b i)
-bit_and_lem =
-    bit_by_bit bit_and min ◌&&◌ and_shr (λ a b. omega (arith, and_step a b))
-    (both_zero_one (λ (a b : ℕ). eqb (min a b) 1 ≡ (eqb a 1 && eqb b 1)) refl refl refl refl)
+bit_and_lem a b i =
+    ap (λ (n : ℕ). eqb n 1) (bit_at_and a b i)
+    ∙ both_zero_one (λ (x y : ℕ). eqb (min x y) 1 ≡ (eqb x 1 && eqb y 1)) refl refl refl refl (a / 2 ^ i % 2) (b / 2 ^ i % 2) (digit_below a i) (digit_below b i)
 
 -- what they have together
 pub bit_or_lem : (a b i : ℕ) → bit (bit_or a b) i ≡ (bit a i || bit b i)
-bit_or_lem =
-    bit_by_bit bit_or max ◌||◌ or_shr (λ a b. omega (arith, or_step a b))
-    (both_zero_one (λ (a b : ℕ). eqb (max a b) 1 ≡ (eqb a 1 || eqb b 1)) refl refl refl refl)
+bit_or_lem a b i =
+    ap (λ (n : ℕ). eqb n 1) (bit_at_or a b i)
+    ∙ both_zero_one (λ (x y : ℕ). eqb (max x y) 1 ≡ (eqb x 1 || eqb y 1)) refl refl refl refl (a / 2 ^ i % 2) (b / 2 ^ i % 2) (digit_below a i) (digit_below b i)
 
 -- the low k bits are the number's own
 pub bit_mod : (k x i : ℕ) → i < k → bit (x % 2 ^ k) i ≡ bit x i
@@ -75,7 +68,7 @@ other_one : (a : ℕ) → a < 2 → eqb (1 - a) 1 ≡ not (eqb a 1)
 other_one a h = zero_one (λ (n : ℕ). eqb (1 - n) 1 ≡ not (eqb n 1)) refl refl a h
 
 pub bit_other : (k x i : ℕ) → i < k → x < 2 ^ k → bit (2 ^ k - 1 - x) i ≡ not (bit x i)
-bit_other k x i h p = ap (λ (n : ℕ). eqb n 1) (other_bits k x i h p) ∙ other_one (x / 2 ^ i % 2) (mod-lt (x / 2 ^ i) (zero-lt-suc 1))
+bit_other k x i h p = ap (λ (n : ℕ). eqb n 1) (other_bits k x i h p) ∙ other_one (x / 2 ^ i % 2) (digit_below x i)
 
 -- a number of k bits has none past them
 pub bit_past : (k x i : ℕ) → x < 2 ^ k → k ≤ i → bit x i ≡ false
@@ -109,7 +102,7 @@ selects_field Node = both_zero_one (λ (a b : ℕ). selects Node (eqb a 1) (eqb 
 
 selects_at : (k : Kind) (high h low l : ℕ) → selects k (bit high h) (bit low l) ≡ eqb (field_at high h low l) (field_of k)
 selects_at k high h low l =
-    selects_field k (high / 2 ^ h % 2) (low / 2 ^ l % 2) (mod-lt (high / 2 ^ h) (zero-lt-suc 1)) (mod-lt (low / 2 ^ l) (zero-lt-suc 1))
+    selects_field k (high / 2 ^ h % 2) (low / 2 ^ l % 2) (digit_below high h) (digit_below low l)
 
 -- which counters count an event of a kind: the enabled ones whose field has the kind's number
 pub due_field : (k : Kind) (s : Switches) (i : ℕ) → due k s i ≡ (bit s.enabled i && eqb (field_at s.high i s.low i) (field_of k))

@@ -21,12 +21,10 @@ pub struct Switches {
     pub phase: u8,
 }
 
-// 2^16 and 2^32, and sixteen bits of which all are set.
+// 2^16 and 2^32.
 const TWO_16: u64 = 1 << 16;
 
 const TWO_32: u64 = 1 << 32;
-
-const SIXTEEN_ONES: u16 = 65535;
 
 impl Switches {
     // Nothing enabled, every field 00, the phase at its start, and the slow clock's speed as it is chosen.
@@ -47,9 +45,9 @@ impl Switches {
         ensures { result ≡ due_mask kind self }
     {
         match kind {
-            Kind::Slow => self.enabled & ((SIXTEEN_ONES - self.high) & (SIXTEEN_ONES - self.low)),
-            Kind::External => self.enabled & ((SIXTEEN_ONES - self.high) & self.low),
-            Kind::Software => self.enabled & (self.high & (SIXTEEN_ONES - self.low)),
+            Kind::Slow => self.enabled & (!self.high & !self.low),
+            Kind::External => self.enabled & (!self.high & self.low),
+            Kind::Software => self.enabled & (self.high & !self.low),
             Kind::Node => self.enabled & (self.high & self.low),
         }
     }
@@ -70,14 +68,14 @@ impl Switches {
     pub fn enabling(mut self, bits: u64) -> Switches
         ensures { result ≡ enabling bits self }
     {
-        self.enabled = self.enabled | (bits % TWO_16) as u16;
+        self.enabled |= (bits % TWO_16) as u16;
         self
     }
 
     pub fn disabling(mut self, bits: u64) -> Switches
         ensures { result ≡ disabling bits self }
     {
-        self.enabled = self.enabled & (SIXTEEN_ONES - (bits % TWO_16) as u16);
+        self.enabled &= !((bits % TWO_16) as u16);
         self
     }
 
