@@ -1,8 +1,9 @@
 -- Laws of the bits of a number: of what two numbers have in common or together, of the bits that a number lacks, of its low bits. By them
 -- the switches are what document 01 says of each counter: the mask of due events is the table of MUX fields, and a write enables or
 -- disables the counters of the set bits and sets the two bits of each MUX field, whose number says what counts. Assumes nothing.
-use Rattle.std.proofs.Common.{◌≡◌, ℕ, zero, suc, ◌+◌, ◌-◌, ◌*◌, ◌/◌, ◌%◌, ◌^◌, ◌<◌, ◌≤◌, min, max, Bool, false, cond, not, ◌&&◌, ◌||◌, eqb, length, get_or, sym, refl, ap, ◌∙◌, ap₂, lt_of_lt_of_le, le_of_suc-le-suc, not-suc-le-zero, mod-lt, zero-lt-suc, pow-suc, div-one, one-add, arith, pow_pos, pow_mono, shr-shr}
+use Rattle.std.proofs.Common.{◌≡◌, ℕ, zero, suc, ◌+◌, ◌-◌, ◌*◌, ◌/◌, ◌%◌, ◌^◌, ◌<◌, ◌≤◌, min, max, Bool, false, cond, not, ◌&&◌, ◌||◌, eqb, length, get_or, sym, ap, ◌∙◌, ap₂, lt_of_lt_of_le, le_of_suc-le-suc, not-suc-le-zero, mod-lt, zero-lt-suc, pow-suc, div-one, one-add, arith, pow_pos, pow_mono, shr-shr}
 use native.Mathlib.Nat.{div-eq_of_lt}
+use Rattle.std.proofs.lemmas.Bool.Decides.{nat_tests}
 use Rattle.std.proofs.lemmas.Nat.Bits.{bit_at_and, bit_at_or}
 use lib.Bits.{bit_and, bit_or}
 use lib.Pow.{field, mod-mod-pow}
@@ -14,29 +15,22 @@ use Rattle.counters.specs.declared.switches.Kind.{Kind}
 use Rattle.counters.specs.declared.switches.Kind.TheVariants.{Slow, External, Software, Node}
 use Rattle.counters.proofs.EachLaws.{each_at}
 
--- a number below 2 is 0 or 1
-zero_one : (P : ℕ → Type 0) → P 0 → P 1 → (n : ℕ) → n < 2 → P n
-zero_one P p q zero h = p
-zero_one P p q (suc zero) h = q
-zero_one P p q (suc (suc n)) h = absurd (not-suc-le-zero (le_of_suc-le-suc (le_of_suc-le-suc h)))
-
-both_zero_one : (P : ℕ → ℕ → Type 0) → P 0 0 → P 0 1 → P 1 0 → P 1 1 → (a b : ℕ) → a < 2 → b < 2 → P a b
-both_zero_one P p q r t a b h k = zero_one (λ (n : ℕ). P n b) (zero_one (P 0) p q b k) (zero_one (P 1) r t b k) a h
-
 digit_below : (x i : ℕ) → x / 2 ^ i % 2 < 2
 digit_below x i = mod-lt (x / 2 ^ i) (zero-lt-suc 1)
 
 -- what two numbers have in common
 pub bit_and_lem : (a b i : ℕ) → bit (bit_and a b) i ≡ (bit a i && bit b i)
-bit_and_lem a b i =
-    ap (λ (n : ℕ). eqb n 1) (bit_at_and a b i)
-    ∙ both_zero_one (λ (x y : ℕ). eqb (min x y) 1 ≡ (eqb x 1 && eqb y 1)) refl refl refl refl (a / 2 ^ i % 2) (b / 2 ^ i % 2) (digit_below a i) (digit_below b i)
+bit_and_lem a b i = ap (λ (n : ℕ). eqb n 1) (bit_at_and a b i) ∙ both (a / 2 ^ i % 2) (b / 2 ^ i % 2) (digit_below a i) (digit_below b i)
+  where
+    both : (x y : ℕ) → x < 2 → y < 2 → eqb (min x y) 1 ≡ (eqb x 1 && eqb y 1)
+    both x y h k = grind (arith, nat_tests)
 
 -- what they have together
 pub bit_or_lem : (a b i : ℕ) → bit (bit_or a b) i ≡ (bit a i || bit b i)
-bit_or_lem a b i =
-    ap (λ (n : ℕ). eqb n 1) (bit_at_or a b i)
-    ∙ both_zero_one (λ (x y : ℕ). eqb (max x y) 1 ≡ (eqb x 1 || eqb y 1)) refl refl refl refl (a / 2 ^ i % 2) (b / 2 ^ i % 2) (digit_below a i) (digit_below b i)
+bit_or_lem a b i = ap (λ (n : ℕ). eqb n 1) (bit_at_or a b i) ∙ either (a / 2 ^ i % 2) (b / 2 ^ i % 2) (digit_below a i) (digit_below b i)
+  where
+    either : (x y : ℕ) → x < 2 → y < 2 → eqb (max x y) 1 ≡ (eqb x 1 || eqb y 1)
+    either x y h k = grind (arith, nat_tests)
 
 -- the low k bits are the number's own
 pub bit_mod : (k x i : ℕ) → i < k → bit (x % 2 ^ k) i ≡ bit x i
@@ -65,7 +59,7 @@ other_bits (suc k) x (suc i) h p =
     ∙ ap (λ (n : ℕ). 1 - n % 2) (sym (half_bit x i))
 
 other_one : (a : ℕ) → a < 2 → eqb (1 - a) 1 ≡ not (eqb a 1)
-other_one a h = zero_one (λ (n : ℕ). eqb (1 - n) 1 ≡ not (eqb n 1)) refl refl a h
+other_one a h = grind (arith, nat_tests)
 
 pub bit_other : (k x i : ℕ) → i < k → x < 2 ^ k → bit (2 ^ k - 1 - x) i ≡ not (bit x i)
 bit_other k x i h p = ap (λ (n : ℕ). eqb n 1) (other_bits k x i h p) ∙ other_one (x / 2 ^ i % 2) (digit_below x i)
@@ -95,10 +89,10 @@ mask_due Node s i h p q =
 
 -- the field by number: two bits select a kind where they are its number
 pub selects_field : (k : Kind) (a b : ℕ) → a < 2 → b < 2 → selects k (eqb a 1) (eqb b 1) ≡ eqb (2 * a + b) (field_of k)
-selects_field Slow = both_zero_one (λ (a b : ℕ). selects Slow (eqb a 1) (eqb b 1) ≡ eqb (2 * a + b) 0) refl refl refl refl
-selects_field External = both_zero_one (λ (a b : ℕ). selects External (eqb a 1) (eqb b 1) ≡ eqb (2 * a + b) 1) refl refl refl refl
-selects_field Software = both_zero_one (λ (a b : ℕ). selects Software (eqb a 1) (eqb b 1) ≡ eqb (2 * a + b) 2) refl refl refl refl
-selects_field Node = both_zero_one (λ (a b : ℕ). selects Node (eqb a 1) (eqb b 1) ≡ eqb (2 * a + b) 3) refl refl refl refl
+selects_field Slow a b h k = grind (arith, nat_tests)
+selects_field External a b h k = grind (arith, nat_tests)
+selects_field Software a b h k = grind (arith, nat_tests)
+selects_field Node a b h k = grind (arith, nat_tests)
 
 selects_at : (k : Kind) (high h low l : ℕ) → selects k (bit high h) (bit low l) ≡ eqb (field_at high h low l) (field_of k)
 selects_at k high h low l =

@@ -2,6 +2,7 @@
 -- some ticks and then more are those in all of them, for any divisor. Assumes nothing.
 use Rattle.std.proofs.Common.{◌≡◌, ℕ, suc, ◌+◌, ◌-◌, ◌*◌, ◌/◌, ◌%◌, ◌^◌, ◌<◌, Bool, true, false, cond, eqb, List, [], ◌∷◌, get_or, sym, refl, ap, ◌∙◌, add_assoc, mod-lt, mod-eq_of_lt, arith, ne_eqb, eqb-true}
 use native.Mathlib.Nat.{div-add-mod, div-eq_of_lt, div_self, mod-add-mod, mod_self, mul-add-div}
+use Rattle.std.proofs.lemmas.Bool.Decides.{nat_tests}
 use borrow.Author.Tests.{eqb-false}
 use Rattle.counters.specs.Bank.{counting, each, grown}
 use Rattle.counters.specs.Due.{divisor_of}
@@ -18,12 +19,10 @@ pub grown_grown : (v a b : ℕ) → grown (grown v a) b ≡ grown v (a + b)
 grown_grown v a b = omega arith
 
 grown_twice : (t : Bool) (v a b : ℕ) → cond t (grown (cond t (grown v a) v) b) (cond t (grown v a) v) ≡ cond t (grown v (a + b)) v
-grown_twice true v a b = grown_grown v a b
-grown_twice false v a b = refl
+grown_twice t v a b = grind (arith, nat_tests)
 
 grown_none : (t : Bool) (v : ℕ) → v < 2 ^ 32 → cond t (grown v 0) v ≡ v
-grown_none true v h = omega arith
-grown_none false v h = refl
+grown_none t v h = grind (arith, nat_tests)
 
 pub counting_twice : (f : ℕ → Bool) (a b : ℕ) (x : Bank) → counting f b (counting f a x) ≡ counting f (a + b) x
 counting_twice f a b x =
@@ -66,5 +65,4 @@ event_falls d n h = go (eqb (n % d + 1) d) refl
         by 0 (n % d + 1) (div-eq_of_lt less) (mod-eq_of_lt less) (ap (λ (b : Bool). cond b 1 0) (sym (ne_eqb (n % d + 1) 0 (λ z. omega arith))))
 
 pub divisor_some : (hundredth : Bool) → 0 < divisor_of hundredth
-divisor_some true = omega arith
-divisor_some false = omega arith
+divisor_some hundredth = grind (arith, nat_tests)

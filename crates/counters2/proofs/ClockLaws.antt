@@ -1,6 +1,7 @@
 -- Laws of the clocks: the ticks of some and then more are those of all of them, and of none none, whichever clock a code selects. Assumes,
 -- where said, a phase below 100.
 use Rattle.std.proofs.Common.{◌≡◌, ℕ, ◌+◌, ◌/◌, ◌%◌, ◌<◌, Bool, true, false, cond, ◌&&◌, ◌||◌, sym, refl, ap, ◌∙◌, add_assoc, arith}
+use Rattle.std.proofs.lemmas.Bool.Decides.{nat_tests}
 use Rattle.counters.specs.Bank.{bit}
 use Rattle.counters.proofs.TickLaws.{events_sum}
 use Rattle.counters2.specs.Clocks.{node_clocks, phase_after, selected, stamp_clocks}
@@ -14,38 +15,14 @@ abbrev pub together : Clocks → Clocks → Clocks
 together a b = record { node = a.node + b.node; tenth = a.tenth + b.tenth; hundredth = a.hundredth + b.hundredth; stamp = a.stamp + b.stamp }
 
 selected_sum : (code : ℕ) (a b : Clocks) → selected code a + selected code b ≡ selected code (together a b)
-selected_sum code a b = go (on_node code) (on_tenth code) (on_hundredth code) (on_stamp code)
-  where
-    by : Bool → Bool → Bool → Bool → Clocks → ℕ
-    by n t h s c = cond n c.node (cond t c.tenth (cond h c.hundredth (cond s c.stamp 0)))
-
-    go : (n t h s : Bool) → by n t h s a + by n t h s b ≡ by n t h s (together a b)
-    go true t h s = refl
-    go false true h s = refl
-    go false false true s = refl
-    go false false false true = refl
-    go false false false false = refl
+selected_sum code a b = grind (arith, nat_tests)
 
 pub own_sum : (f : Fields) (lines : ℕ) (a b : Clocks) (i : ℕ) → own_ticks f lines a i + own_ticks f lines b i ≡ own_ticks f lines (together a b) i
-own_sum f lines a b i = go (enabled (enable_of f i) && (by_clock (mode_of f i) || (while_high (mode_of f i) && bit lines i)))
-  where
-    go : (t : Bool) → cond t (selected (select_of f i) a) 0 + cond t (selected (select_of f i) b) 0 ≡ cond t (selected (select_of f i) (together a b)) 0
-    go true = selected_sum (select_of f i) a b
-    go false = refl
+own_sum f lines a b i = let e = selected_sum (select_of f i) a b in grind (arith, nat_tests)
 
 -- no tick of any clock
 pub own_none : (f : Fields) (lines : ℕ) (c : Clocks) → c.node ≡ 0 → c.tenth ≡ 0 → c.hundredth ≡ 0 → c.stamp ≡ 0 → (i : ℕ) → own_ticks f lines c i ≡ 0
-own_none f lines c n t h s i =
-    go (enabled (enable_of f i) && (by_clock (mode_of f i) || (while_high (mode_of f i) && bit lines i)))
-    (on_node (select_of f i)) (on_tenth (select_of f i)) (on_hundredth (select_of f i)) (on_stamp (select_of f i))
-  where
-    go : (x a b d e : Bool) → cond x (cond a c.node (cond b c.tenth (cond d c.hundredth (cond e c.stamp 0)))) 0 ≡ 0
-    go false a b d e = refl
-    go true true b d e = n
-    go true false true d e = t
-    go true false false true e = h
-    go true false false false true = s
-    go true false false false false = refl
+own_none f lines c n t h s i = grind (arith, nat_tests)
 
 -- ---- the node's clock
 

@@ -2,6 +2,7 @@
 -- its fields. By induction on how many there are. Assumes nothing.
 use Rattle.std.proofs.Common.{◌≡◌, ℕ, zero, suc, ◌+◌, ◌-◌, ◌*◌, ◌/◌, ◌%◌, ◌^◌, ◌<◌, ◌≤◌, Bool, true, false, cond, not, ◌&&◌, eqb, sym, refl, ap, ◌∙◌, ap₂, lt_of_lt_of_le, le_of_suc-le-suc, not-suc-le-zero, mod-lt, zero-lt-suc, add_comm, div-one, arith, pow_mono, pow-add, shr-shr, eq-eqb, ne_eqb, add-one}
 use Rattle.std.specs.List.{list_all, range_with_len}
+use Rattle.std.proofs.lemmas.Bool.Decides.{nat_tests}
 use native.Mathlib.Nat.{div-eq_of_lt}
 use mathlib.Core.Bool.{false≢true}
 use Rattle.words.proofs.WordLaws.{both_left, both_right}
@@ -27,11 +28,7 @@ four_more n = ap (λ (k : ℕ). 2 ^ k) (omega arith) ∙ pow-add 2 4 (4 * n)
 
 module _ (low : ℕ) where
   pub kept_below : (old new : ℕ) → old < 16 → new < 16 → kept low old new < 16
-  kept_below old new h k = go (eqb (new % low) 0)
-    where
-      go : (b : Bool) → cond b old new < 16
-      go true = h
-      go false = k
+  kept_below old new h k = grind (arith, nat_tests)
 
   -- n fields have 4n bits
   pub written_below : (n old new : ℕ) → written_fields n low old new < 2 ^ (4 * n)

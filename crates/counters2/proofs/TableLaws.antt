@@ -1,6 +1,7 @@
 -- The tables as printed say what a write of a register leaves in each field, which counters it resets, and which events count for a counter: each
 -- code is looked up by computation over the sixteen fields. Assumes a counter below 16.
 use Rattle.std.proofs.Common.{◌≡◌, ℕ, zero, suc, ◌*◌, ◌/◌, ◌%◌, ◌^◌, ◌<◌, Bool, true, false, cond, not, ◌&&◌, ◌||◌, eqb, leb, List, [], ◌∷◌, length, get_or, sym, refl, ap, ◌∙◌, mod-lt, zero-lt-suc, zero-add, arith, ne_eqb}
+use Rattle.std.proofs.lemmas.Bool.Decides.{nat_tests}
 use lib.ListN.{get_or-eq_default}
 use Rattle.words.proofs.TableLaws.{every, every_from}
 use Rattle.counters.specs.Bank.{bit}
@@ -22,10 +23,7 @@ agree a b = cond a b (not b)
 
 agree_same : (a b : Bool) → agree a b ≡ true → a ≡ b
 unfolding agree
-agree_same true true e = refl
-agree_same true false e = sym e
-agree_same false true e = e
-agree_same false false e = refl
+agree_same a b e = grind (arith, nat_tests)
 
 -- a test of a field is a test of what a table says of it, if it is for each of the sixteen
 looked_up : (f g : ℕ → Bool) (table : List ℕ) → length table ≡ 16 → every (λ x says. agree (f x) (g says)) 0 table ≡ true → (x : ℕ) → x < 16 → f x ≡ g (get_or table x 0)

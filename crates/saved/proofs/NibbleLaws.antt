@@ -4,11 +4,12 @@ use Prim.Native.Nat.{ℕ, zero, suc, ◌+◌, ◌*◌, ◌/◌, ◌%◌, ◌≤�
 use native.Mathlib.Nat.{add-mul-mod_self_left, suc_inj, suc-ne-zero}
 use native.Mathlib.Omega.{arith}
 use mathlib.Core.Path.{◌≡◌, refl, sym, ap, ◌∙◌}
-use mathlib.Core.Bool.{Bool, true, false, not, ◌&&◌, ◌||◌}
+use mathlib.Core.Bool.{Bool, true, false, not, ◌&&◌, ◌||◌, or_assoc}
 use mathlib.Core.List.{List, [], ◌∷◌, ◌++◌, map}
 use lib.Dec.{eqb}
 use lib.ListN.{drop, length, length-drop, take}
 use lib.Seq.{drop-drop, length-take-le, take-add}
+use Rattle.std.proofs.lemmas.List.{drop-map, take-map}
 use Rattle.words.specs.Bytes.{number}
 use Rattle.words.specs.Word.{byte_of}
 use Rattle.counters2.specs.Fields.{holdable, none_zero}
@@ -20,10 +21,6 @@ none_of : (a b c : Bool) → not a && (not b && not c) ≡ not ((a || b) || c)
 none_of true b c = refl
 none_of false true c = refl
 none_of false false c = refl
-
-or_assoc : (a b c : Bool) → (a || b) || c ≡ a || (b || c)
-or_assoc true b c = refl
-or_assoc false b c = refl
 
 -- n bytes have 2n fields; `low` is a number of which the bits of a field and of a byte are multiples
 module _ (low : ℕ) (first : (b : ℕ) → b % 256 % 16 % low ≡ b % low) (second : (b : ℕ) → b % 256 / 16 % 16 % low ≡ b / 16 % low) where
@@ -53,13 +50,7 @@ some_append low (x ∷ xs) ys =
 
 -- some bytes of a list, each with its low byte
 map_part : (n k : ℕ) (bs : List ℕ) → take n (drop k (map byte_of bs)) ≡ map byte_of (take n (drop k bs))
-map_part zero zero bs = refl
-map_part zero (suc k) [] = refl
-map_part zero (suc k) (b ∷ bs) = map_part zero k bs
-map_part (suc n) zero [] = refl
-map_part (suc n) zero (b ∷ bs) = ap (λ (l : List ℕ). byte_of b ∷ l) (map_part n zero bs)
-map_part (suc n) (suc k) [] = refl
-map_part (suc n) (suc k) (b ∷ bs) = map_part (suc n) k bs
+map_part n k bs = ap (take n) (drop-map byte_of k bs) ∙ take-map byte_of n (drop k bs)
 
 module _ (saved : List ℕ) (all : 88 ≤ length saved) where
   abbrev eight_at : ℕ → List ℕ
