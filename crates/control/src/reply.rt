@@ -53,15 +53,9 @@ impl Reply {
     }
 }
 
-// The same two as functions.
+// The number as a function.
 pub fn number_of(reply: Reply) -> u64
     ensures { result ≡ reply_number reply }
 {
     reply.number()
-}
-
-pub fn value_of(reply: Reply) -> u64
-    ensures { result ≡ reply_value reply }
-{
-    reply.value()
 }
