@@ -8,6 +8,7 @@ use mathlib.Core.List.{List, [], ◌∷◌}
 use lib.Dec.{eqb, ltb, eqb-suc-suc}
 use lib.ListN.{get_or, length}
 use borrow.Author.Tests.{eqb-true, lt-ltb, le-ltb, ltb-true, ltb-false, ne_eqb}
+use Rattle.std.proofs.Common.{Option, None, Some}
 use Rattle.words.specs.Bytes.{number}
 use Rattle.chip.proofs.Replies.{reply_0, reply_1, reply_2, reply_3, reply_4, reply_5, reply_6, reply_7, reply_8, reply_10, reply_11, reply_15}
 use Rattle.chip.specs.Operation.{op_reset, op_ticks, op_nodes, op_events, step}
@@ -18,7 +19,7 @@ use Rattle.script.specs.Kinds.{asked, bad_kind, bad_record, kind_list, record_te
 use Rattle.script.specs.Line.{answer_line, decimal, width_of}
 use Rattle.script.specs.Record.{by_kind, operation_of, outcome_of, run_of}
 use Rattle.script.specs.declared.operation.Operation.{Operation}
-use Rattle.script.specs.declared.operation.Operation.TheVariants.{Bad, Ticks, Nodes, Events}
+use Rattle.script.specs.declared.operation.Operation.TheVariants.{Ticks, Nodes, Events}
 use Rattle.script.specs.declared.operation.Outcome.{Outcome}
 
 -- "data (8 bytes, low first)": bytes 2, 1, 0, .. are 258
@@ -60,15 +61,15 @@ or_false false = refl
 
 -- a test before an operation makes a bad record where it fails
 module _ (c : Chip) where
-  tested : (t : Told) (o : Operation) → run_of o c ≡ outcome_of t → (fit : Bool) {bad : Bool} → bad ≡ not fit → run_of (cond fit o Bad) c ≡ outcome_of (cond bad (refused_record c) t)
+  tested : (t : Told) (o : Operation) → run_of (Some o) c ≡ outcome_of t → (fit : Bool) {bad : Bool} → bad ≡ not fit → run_of (cond fit (Some o) None) c ≡ outcome_of (cond bad (refused_record c) t)
   unfolding run_of
   tested t o h fit e = go fit ∙ ap (λ (b : Bool). outcome_of (cond b (refused_record c) t)) (sym e)
     where
-      go : (b : Bool) → run_of (cond b o Bad) c ≡ outcome_of (cond (not b) (refused_record c) t)
+      go : (b : Bool) → run_of (cond b (Some o) None) c ≡ outcome_of (cond (not b) (refused_record c) t)
       go true = h
       go false = refl
 
-  framed : (t : Told) (o : Operation) (bad : Bool) → run_of o c ≡ outcome_of (cond bad (refused_record c) t) → (long zeroed : Bool) → run_of (cond long (cond zeroed o Bad) Bad) c ≡ outcome_of (cond (not long || (not zeroed || bad)) (refused_record c) t)
+  framed : (t : Told) (o : Option Operation) (bad : Bool) → run_of o c ≡ outcome_of (cond bad (refused_record c) t) → (long zeroed : Bool) → run_of (cond long (cond zeroed o None) None) c ≡ outcome_of (cond (not long || (not zeroed || bad)) (refused_record c) t)
   unfolding run_of
   framed t o bad h true true = h
   framed t o bad h true false = refl
@@ -105,7 +106,7 @@ record_tells_lem (kind ∷ []) c = refl
 record_tells_lem (kind ∷ address ∷ []) c = refl
 record_tells_lem (kind ∷ address ∷ lines ∷ []) c = refl
 record_tells_lem (kind ∷ address ∷ lines ∷ fourth ∷ eight) c =
-    ap (λ (long : Bool). run_of (cond long (cond (eqb fourth 0) (by_kind kind address lines (number eight)) Bad) Bad) c) (eight_left (length eight))
+    ap (λ (long : Bool). run_of (cond long (cond (eqb fourth 0) (by_kind kind address lines (number eight)) None) None) c) (eight_left (length eight))
     ∙ framed c _ _ (bad_kind kind (number eight)) (kinds c address lines (number eight) kind) (eqb (length eight) 8) (eqb fourth 0)
 
 -- "9 bad bench record": exactly there

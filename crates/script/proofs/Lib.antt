@@ -1,5 +1,4 @@
 -- The laws that belong to no one function.
-pub mod BlockLaws
 pub mod KindLaws
 pub mod LineLaws
 pub mod RecordLaws

@@ -9,7 +9,7 @@ use mathlib.Core.List.{List, [], ◌∷◌, ◌++◌}
 use lib.Dec.{ltb, leb}
 use lib.ListN.{length, set, length-append}
 use lib.Seq.{sets, length-sets}
-use borrow.Author.Tests.{leb-true, lt-ltb, le-ltb}
+use borrow.Author.Tests.{leb-true, le-leb, lt-ltb, le-ltb}
 use Rattle.words.proofs.PutLaws.{set_sets, sets_append}
 use Rattle.io.specs.Digits.{last_digits, hex_digit_ascii}
 use Rattle.script.specs.Line.{decimal, line_buffer, line_end, answer_line, width_of}
@@ -131,3 +131,13 @@ module _ (number value at : ℕ) (l : List ℕ) {space end : ℕ} (s : space ≡
       (e ∙ ap (λ (i : ℕ). i + 1 + length (decimal value)) s ∙ ap (λ (i : ℕ). i + length (decimal value)) (add-one start))
       ∙ sym (sets_append spaced (decimal value) (10 ∷ []) (suc start))
       ∙ sym (sets_append l (decimal number) (32 ∷ decimal value ++ (10 ∷ [])) at)
+
+-- a line where 42 places are left
+module _ (number value : ℕ) where
+  pub end_fits : (room at : ℕ) → at + 42 ≤ room → line_end number value room at ≡ at + length (answer_line number value)
+  unfolding line_end
+  end_fits room at h = rw (le-leb (at + 42) room h)
+
+  pub buffer_fits : (out : List ℕ) (at : ℕ) → at + 42 ≤ length out → line_buffer number value out at ≡ sets out at (answer_line number value)
+  unfolding line_buffer
+  buffer_fits out at h = rw (le-leb (at + 42) (length out) h)

@@ -6,15 +6,16 @@ use Rattle.chip.proofs.TableLaws.{send_by_lem}
 use Rattle.script.specs.Record.{outcome_of, run_of}
 use Rattle.script.specs.Table.{run_by}
 use Rattle.script.specs.declared.operation.Operation.{Operation}
-use Rattle.script.specs.declared.operation.Operation.TheVariants.{Bad, Reset, Write, Read, Ticks, Nodes, Events, Send}
+use Rattle.script.specs.declared.operation.Operation.TheVariants.{Reset, Write, Read, Ticks, Nodes, Events, Send}
+use Rattle.std.proofs.Common.{Option, None, Some}
 
-pub run_by_lem : (operation : Operation) (c : Chip) → run_by parity_table operation c ≡ run_of operation c
+pub run_by_lem : (operation : Option Operation) (c : Chip) → run_by parity_table operation c ≡ run_of operation c
 unfolding run_by run_of
-run_by_lem Bad c = refl
-run_by_lem (Reset hundredth) c = refl
-run_by_lem (Write address bits lines) c = refl
-run_by_lem (Read address) c = refl
-run_by_lem (Ticks k) c = refl
-run_by_lem (Nodes k) c = refl
-run_by_lem (Events mask) c = refl
-run_by_lem Send c = ap outcome_of (send_by_lem c)
+run_by_lem None c = refl
+run_by_lem (Some (Reset hundredth)) c = refl
+run_by_lem (Some (Write address bits lines)) c = refl
+run_by_lem (Some (Read address)) c = refl
+run_by_lem (Some (Ticks k)) c = refl
+run_by_lem (Some (Nodes k)) c = refl
+run_by_lem (Some (Events mask)) c = refl
+run_by_lem (Some Send) c = ap outcome_of (send_by_lem c)

@@ -6,7 +6,6 @@ ghost use Rattle.script.specs.Record.{by_kind, fitting, operation_of, outcome_of
 ghost use Rattle.script.specs.Table.{run_by};
 
 use chip::chip::{Answer, Chip};
-use control::reply::number_of;
 use words::parity::parities;
 
 const TWO_8: u64 = 1 << 8;
@@ -17,10 +16,9 @@ const TWO_24: u64 = 1 << 24;
 
 const TWO_32: u64 = 1 << 32;
 
-// What a record asks for; Bad is reply 9.
+// What a record asks for.
 #[derive(Clone, Copy)]
 pub enum Operation {
-    Bad,
     // Whether the slow clock is to be a hundredth of the Timestamp's.
     Reset(bool),
     // Address, data and processor lines.
@@ -40,68 +38,42 @@ pub struct Outcome {
     pub number: u64,
 }
 
-// The operation of a record: kind, address, lines, a zero byte, data.
-pub fn decode(bytes: &[u8]) -> Operation
+// The operation of a record: kind, address, lines, a zero byte, data; None of a bad one, which is reply 9.
+pub fn decode(bytes: &[u8]) -> Option<Operation>
     ensures { result ≡ operation_of bytes.now }
 {
     if bytes.len() != 12 {
-        return Operation::Bad;
+        return None;
     }
     if bytes[3] != 0 {
-        return Operation::Bad;
+        return None;
     }
     by_kind(bytes[0], bytes[1], bytes[2], bits_of(bytes))
 }
 
-fn by_kind(kind: u8, address: u8, lines: u8, bits: u64) -> Operation
+fn by_kind(kind: u8, address: u8, lines: u8, bits: u64) -> Option<Operation>
     ensures { result ≡ by_kind kind address lines bits }
 {
     match kind {
         0 => reset(bits),
-        1 => Operation::Write(address as u64, bits, lines),
-        2 => Operation::Read(address as u64),
-        3 => ticks(bits),
-        4 => nodes(bits),
-        5 => events(bits),
-        6 => Operation::Send,
-        _ => Operation::Bad,
+        1 => Some(Operation::Write(address as u64, bits, lines)),
+        2 => Some(Operation::Read(address as u64)),
+        3 => Some(Operation::Ticks(u32::try_from(bits).ok()?)),
+        4 => Some(Operation::Nodes(u32::try_from(bits).ok()?)),
+        5 => Some(Operation::Events(u16::try_from(bits).ok()?)),
+        6 => Some(Operation::Send),
+        _ => None,
     }
 }
 
-fn reset(bits: u64) -> Operation
+fn reset(bits: u64) -> Option<Operation>
     ensures { result ≡ fitting 1 reset_by bits }
 {
-    if bits < 2 {
-        return Operation::Reset(bits == 1);
+    match bits {
+        0 => Some(Operation::Reset(false)),
+        1 => Some(Operation::Reset(true)),
+        _ => None,
     }
-    Operation::Bad
-}
-
-fn ticks(bits: u64) -> Operation
-    ensures { result ≡ fitting 32 Operation.Ticks bits }
-{
-    if bits < TWO_32 {
-        return Operation::Ticks(bits as u32);
-    }
-    Operation::Bad
-}
-
-fn nodes(bits: u64) -> Operation
-    ensures { result ≡ fitting 32 Operation.Nodes bits }
-{
-    if bits < TWO_32 {
-        return Operation::Nodes(bits as u32);
-    }
-    Operation::Bad
-}
-
-fn events(bits: u64) -> Operation
-    ensures { result ≡ fitting 16 Operation.Events bits }
-{
-    if bits < TWO_16 {
-        return Operation::Events(bits as u16);
-    }
-    Operation::Bad
 }
 
 // The data of a record: its last eight bytes, low first.
@@ -133,7 +105,7 @@ fn wide(byte: u8) -> u64
 }
 
 // A record's step on the chip.
-pub fn run(chip: Chip, operation: Operation) -> Outcome
+pub fn run(chip: Chip, operation: Option<Operation>) -> Outcome
     ensures { result ≡ run_of operation chip }
 {
     let table = parities();
@@ -141,15 +113,17 @@ pub fn run(chip: Chip, operation: Operation) -> Outcome
 }
 
 // The same with the parity bits of a lent table, for whoever runs one record after another.
-pub fn run_by(table: &[u8], chip: Chip, operation: Operation) -> Outcome
+pub fn run_by(table: &[u8], chip: Chip, operation: Option<Operation>) -> Outcome
     ensures { result ≡ run_by table.now operation chip }
 {
-    match operation {
-        Operation::Bad => Outcome {
+    let Some(asked) = operation else {
+        return Outcome {
             chip,
             value: 0,
             number: 9,
-        },
+        };
+    };
+    match asked {
         Operation::Reset(hundredth) => numbered(chip.hardware_reset(hundredth)),
         Operation::Write(address, bits, lines) => numbered(chip.write(address, bits, lines)),
         Operation::Read(address) => numbered(chip.read(address)),
@@ -163,11 +137,9 @@ pub fn run_by(table: &[u8], chip: Chip, operation: Operation) -> Outcome
 fn numbered(answer: Answer) -> Outcome
     ensures { result ≡ outcome_of (told answer) }
 {
-    let chip = answer.chip;
-    let reply = answer.reply;
     Outcome {
-        chip,
+        chip: answer.chip,
         value: answer.value,
-        number: number_of(reply),
+        number: answer.reply.number(),
     }
 }

@@ -9,6 +9,7 @@ use lib.Dec.{eqb, leb}
 use lib.ListN.{drop, get_or, length, replicate, take, length-replicate}
 use lib.Seq.{take_at}
 use borrow.Author.Tests.{leb-true}
+use Rattle.std.proofs.Common.{Option, None, Some}
 use Rattle.samples.specs.Layout.{widths}
 use Rattle.samples.specs.declared.edition.Edition.TheVariants.{Second}
 use Rattle.queue.specs.Queue.{send_buffer, send_many, send_words}
@@ -18,21 +19,21 @@ use Rattle.chip2.specs.Chip2.{done, inside, replied, send_into, sent_buffer, wit
 use Rattle.chip2.specs.declared.chip2.Chip2.{Chip2}
 use Rattle.script2.specs.Record.{by_kind, operation_of, zeroed}
 use Rattle.script2.specs.declared.operation.Operation.{Operation}
-use Rattle.script2.specs.declared.operation.Operation.TheVariants.{Bad, Reset, Write, Read, Ticks, Nodes, Events, Send, Fill}
+use Rattle.script2.specs.declared.operation.Operation.TheVariants.{Reset, Write, Read, Ticks, Nodes, Events, Send, Fill}
 
 -- how many places an operation asks for
-abbrev places : Operation → ℕ
-places Bad = 0
-places Reset = 0
-places (Write address bits lines) = 0
-places (Read address) = 0
-places (Ticks k levels) = 0
-places (Nodes k levels) = 0
-places (Events mask) = 0
-places Send = 0
-places (Fill n) = n
+abbrev places : Option Operation → ℕ
+places None = 0
+places (Some Reset) = 0
+places (Some (Write address bits lines)) = 0
+places (Some (Read address)) = 0
+places (Some (Ticks k levels)) = 0
+places (Some (Nodes k levels)) = 0
+places (Some (Events mask)) = 0
+places (Some Send) = 0
+places (Some (Fill n)) = n
 
-either : (b : Bool) (o p : Operation) → places o ≤ 1000 → places p ≤ 1000 → places (cond b o p) ≤ 1000
+either : (b : Bool) (o p : Option Operation) → places o ≤ 1000 → places p ≤ 1000 → places (cond b o p) ≤ 1000
 either true o p h k = h
 either false o p h k = k
 
@@ -48,14 +49,14 @@ kind_places kind address lines levels bits =
     (either (eqb kind 6) _ _ (omega arith)
     (either (eqb kind 7) _ _ (fits (leb bits 1000) refl) (omega arith))))))))
   where
-    fits : (b : Bool) → leb bits 1000 ≡ b → places (cond b (Fill bits) Bad) ≤ 1000
+    fits : (b : Bool) → leb bits 1000 ≡ b → places (cond b (Some (Fill bits)) None) ≤ 1000
     fits true e = leb-true bits 1000 e
     fits false e = omega arith
 
-pub few_places : (bytes : List ℕ) {n : ℕ} → operation_of bytes ≡ Fill n → n ≤ 1000
+pub few_places : (bytes : List ℕ) {n : ℕ} → operation_of bytes ≡ Some (Fill n) → n ≤ 1000
 unfolding operation_of
 few_places bytes e =
-    subst (λ (o : Operation). places o ≤ 1000) e
+    subst (λ (o : Option Operation). places o ≤ 1000) e
     (either (eqb (length bytes) 16) _ _ (either (zeroed bytes) _ _ (kind_places (get_or bytes 0 0) (get_or bytes 1 0) (get_or bytes 2 0) _ _) (omega arith)) (omega arith))
 
 module _ (c : Chip2) where

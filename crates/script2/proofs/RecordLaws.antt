@@ -12,7 +12,9 @@ use Rattle.words.proofs.ByteLaws.{number_append}
 use Rattle.samples.proofs.ReadLaws.{number_step}
 use Rattle.script2.specs.Record.{up_to}
 use Rattle.script2.specs.declared.operation.Operation.{Operation}
-use Rattle.script2.specs.declared.operation.Operation.TheVariants.{Bad}
+use Rattle.std.proofs.Common.{None, Result, Some}
+use Rattle.std.specs.Result.{OkIff, result_ok}
+use Rattle.script.proofs.RecordLaws.{try_got, try_lost}
 
 pub two_bytes : (bs : List ℕ) (i : ℕ) → i + 2 ≤ length bs → number (take 2 (drop i bs)) ≡ get_or bs i 0 + 256 * get_or bs (i + 1) 0
 unfolding number
@@ -31,9 +33,18 @@ bytes_more m n at bs h =
     (drop-drop m at bs)
 
 -- data up to a last number are the operation's, any other make a bad record
-module _ (last bits : ℕ) (o : Operation) where
-  pub up_to_lem : bits ≤ last → o ≡ up_to last bits o
+module _ (last : ℕ) (f : ℕ → Operation) (bits : ℕ) where
+  pub up_to_lem : bits ≤ last → Some (f bits) ≡ up_to last bits (f bits)
   up_to_lem h = rw (le-leb bits last h)
 
-  pub beyond : last < bits → Bad ≡ up_to last bits o
+  pub beyond : last < bits → None ≡ up_to last bits (f bits)
   beyond h = rw (lt-leb bits last h)
+
+  module _ {E : Type 0} (r : Result ℕ E) (tried : OkIff r (bits < suc last) bits) where
+    pub up_to_got : {x : ℕ} → result_ok r ≡ Some x → Some (f x) ≡ up_to last bits (f bits)
+    up_to_got q =
+        let t = try_got r tried q in
+        ap (λ (n : ℕ). Some (f n)) t.0 ∙ up_to_lem (omega (arith, t.1))
+
+    pub up_to_lost : result_ok r ≡ None → None ≡ up_to last bits (f bits)
+    up_to_lost q = beyond (try_lost r tried q)

@@ -24,6 +24,9 @@ pub(crate) fn put_sent(number: u64, value: u64, words: &[u16], out: &mut [u8], a
     ensures out_after { out.new ≡ sets out.old at (words_line number value words.now) }
 {
     let end = put_plain(number, value, out, at);
+    if words.is_empty() {
+        return end;
+    }
     put_words(words, out, end - 1)
 }
 

@@ -9,10 +9,9 @@ const TWO_16: u64 = 1 << 16;
 
 const TWO_32: u64 = 1 << 32;
 
-// What a record asks for; Bad is reply 9.
+// What a record asks for; a record that asks for nothing is reply 9.
 #[derive(Clone, Copy)]
 pub enum Operation {
-    Bad,
     Reset,
     // Address, data and processor lines.
     Write(u64, u64, u8),
@@ -27,52 +26,32 @@ pub enum Operation {
 }
 
 // The operation of a record: kind, address, lines, a zero byte, the lines that are high, two zero bytes, data.
-pub fn decode(bytes: &[u8]) -> Operation
+pub fn decode(bytes: &[u8]) -> Option<Operation>
     ensures { result ≡ operation_of bytes.now }
 {
     if bytes.len() != 16 {
-        return Operation::Bad;
+        return None;
     }
     if (bytes[3] == 0) & ((bytes[6] == 0) & (bytes[7] == 0)) {
         let levels = pair(bytes, 4) as u16;
         return by_kind(bytes[0], bytes[1], bytes[2], levels, eight(bytes, 8));
     }
-    Operation::Bad
+    None
 }
 
-fn by_kind(kind: u8, address: u8, lines: u8, levels: u16, bits: u64) -> Operation
+fn by_kind(kind: u8, address: u8, lines: u8, levels: u16, bits: u64) -> Option<Operation>
     ensures { result ≡ by_kind kind address lines levels bits }
 {
     match kind {
-        0 => Operation::Reset,
-        1 => Operation::Write(address as u64, bits, lines),
-        2 => Operation::Read(address as u64),
-        3 => {
-            if bits <= 4294967295 {
-                return Operation::Ticks(bits as u32, levels);
-            }
-            Operation::Bad
-        }
-        4 => {
-            if bits <= 4294967295 {
-                return Operation::Nodes(bits as u32, levels);
-            }
-            Operation::Bad
-        }
-        5 => {
-            if bits <= 65535 {
-                return Operation::Events(bits as u16);
-            }
-            Operation::Bad
-        }
-        6 => Operation::Send,
-        7 => {
-            if bits <= 1000 {
-                return Operation::Fill(bits as usize);
-            }
-            Operation::Bad
-        }
-        _ => Operation::Bad,
+        0 => Some(Operation::Reset),
+        1 => Some(Operation::Write(address as u64, bits, lines)),
+        2 => Some(Operation::Read(address as u64)),
+        3 => Some(Operation::Ticks(u32::try_from(bits).ok()?, levels)),
+        4 => Some(Operation::Nodes(u32::try_from(bits).ok()?, levels)),
+        5 => Some(Operation::Events(u16::try_from(bits).ok()?)),
+        6 => Some(Operation::Send),
+        7 if bits <= 1000 => Some(Operation::Fill(bits as usize)),
+        _ => None,
     }
 }
 

@@ -2,4 +2,4 @@
 use Rattle.script.proofs.operation.numbered.Goals as goal
 
 pub returns : goal.returns
-returns c = λ i. record { chip = c.args.answer.chip; value = c.args.answer.value; number = c.number_of.ensures i }
+returns c = λ i. record { chip = c.args.answer.chip; value = c.args.answer.value; number = c.number.ensures i }

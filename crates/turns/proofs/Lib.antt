@@ -1,0 +1,4 @@
+-- The laws that belong to no one function.
+pub mod BlockLaws
+pub mod RunLaws
+pub mod TurnLaws
