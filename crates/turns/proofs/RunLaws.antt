@@ -1,6 +1,6 @@
 -- A block with room for its records gives their whole text, and an input cut at the end of a record gives the chip and the text of the
 -- whole: so it doesn't matter in which reads an input comes (`reads_chip_lem`, `reads_text_lem`). For every format; assumes nothing.
-use Prim.Native.Nat.{ℕ, zero, suc, ◌+◌, ◌-◌, ◌*◌, ◌/◌, ◌≤◌, ◌<◌, min}
+use Prim.Native.Nat.{ℕ, zero, suc, ◌+◌, ◌-◌, ◌*◌, ◌/◌, ◌≤◌, ◌<◌}
 use native.Mathlib.Nat.{add-suc, add-zero}
 use native.Mathlib.Omega.{arith}
 use mathlib.Core.Path.{◌≡◌, refl, sym, ap, ap₂, ◌∙◌}

@@ -1,11 +1,10 @@
 -- `script::block::run_block` meets its contract: one record more is its step on the chip, for the table that is lent is the table of parity
 -- bits, and its line behind the others. Assumes nothing.
-use Prim.Native.Nat.{ℕ, ◌+◌, ◌-◌, ◌*◌, ◌≤◌, min}
+use Prim.Native.Nat.{ℕ, ◌+◌, ◌-◌, ◌*◌, ◌≤◌}
 use native.Mathlib.Omega.{arith}
-use mathlib.Core.Path.{◌≡◌, sym, ap, ap₂, ◌∙◌}
+use mathlib.Core.Path.{◌≡◌, ap, ap₂, ◌∙◌}
 use mathlib.Core.List.{List}
 use lib.ListN.{length, drop, take}
-use Rattle.words.specs.Table.{parity_table}
 use Rattle.script.specs.Line.{answer_line}
 use Rattle.script.specs.Record.{operation_of}
 use Rattle.script.specs.Run.{bench, outcome_by}

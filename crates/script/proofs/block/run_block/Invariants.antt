@@ -1,6 +1,4 @@
 -- `script::block::run_block`: after i records the chip and the text are those of the first i (`Ran`).
-use Prim.Native.Nat.{◌*◌, ◌≤◌}
-use lib.ListN.{length}
 use Rattle.script.specs.Run.{bench}
 use Rattle.turns.proofs.BlockLaws.{Ran}
 use Rattle.script.proofs.block.run_block.Given as goal

@@ -3,14 +3,13 @@
 use Rattle.script2.specs.Line.{words_line}
 use Rattle.chip2.specs.declared.chip2.Answer.{Answer}
 use Rattle.std.proofs.Common.{Option, None, Some}
-use Rattle.control.specs.Reply.{reply_number}
 use Rattle.script2.specs.declared.operation.Operation.{Operation}
-use Prim.Native.Nat.{ℕ, ◌+◌, ◌-◌, ◌/◌, ◌≤◌, min, ◌*◌}
+use Prim.Native.Nat.{ℕ, ◌+◌, ◌-◌, ◌≤◌, min, ◌*◌}
 use native.Mathlib.Omega.{arith}
 use mathlib.Core.Path.{◌≡◌, refl, sym, ap, ap₂, ◌∙◌}
 use mathlib.Core.List.{List, [], ◌++◌}
 use lib.ListN.{length, drop, take, length-append, length-drop}
-use lib.Seq.{length-take-le, take-append-le, sets}
+use lib.Seq.{length-take-le, take-append-le}
 use Rattle.chip2.specs.Chip2.{send_into, sent_buffer}
 use Rattle.chip2.specs.Table.{send_by}
 use Rattle.chip2.specs.Told.{Told, told}
@@ -19,8 +18,8 @@ use Rattle.chip2.proofs.TableLaws.{send_by_lem}
 use Rattle.script2.specs.Record.{operation_of, sent_words, step_of}
 use Rattle.script2.specs.Run.{line_of, second}
 use Rattle.turns.specs.Run.{block_count, record_at}
-use Rattle.turns.proofs.BlockLaws.{Ran, ran_buffer, ran_none, ran_on, ran_value, record_part}
-use Rattle.script2.specs.declared.operation.Operation.TheVariants.{Reset, Write, Read, Ticks, Nodes, Events, Send, Fill}
+use Rattle.turns.proofs.BlockLaws.{ran_buffer, ran_none, ran_on, ran_value, record_part}
+use Rattle.script2.specs.declared.operation.Operation.TheVariants.{Fill}
 use Rattle.script2.proofs.FillLaws.{any_buffer, few_places, few_sent}
 use Rattle.script2.proofs.block.run_block.Goals.{After-number, in-Reset, in-Write, in-Read, in-Ticks, in-Nodes, in-Events, in-Send, in-Fill}
 use Rattle.script2.proofs.block.run_block.Goals as goal
@@ -79,23 +78,23 @@ unfolding step_of sent_words
 stepped c =
     let room = c.loop-i.invariant.0 in
     elim c.match-operation.branch [
-      in-Reset w ↦ plain room w.in-Reset.is w.hardware_reset-answer.ensures refl w.answer-is w.words-is w.sent-is
-    | in-Write w ↦ plain room w.in-Write.is w.write-answer.ensures refl w.answer-is w.words-is w.sent-is
-    | in-Read w ↦ plain room w.in-Read.is w.read-answer.ensures refl w.answer-is w.words-is w.sent-is
-    | in-Ticks w ↦ plain room w.in-Ticks.is w.timestamp_ticks-answer.ensures refl w.answer-is w.words-is w.sent-is
-    | in-Nodes w ↦ plain room w.in-Nodes.is w.node_ticks-answer.ensures refl w.answer-is w.words-is w.sent-is
-    | in-Events w ↦ plain room w.in-Events.is w.external_events-answer.ensures refl w.answer-is w.words-is w.sent-is
-    | in-Send w ↦ plain room w.in-Send.is (w.send_by-answer.ensures ∙ ap (λ (t : List ℕ). send_by t c.loop-i.state) c.parities-table.ensures ∙ send_by_lem c.loop-i.state) refl w.answer-is w.words-is w.sent-is
-    | in-Fill w ↦
-        (let few = few_places _ (sym c.decode.ensures ∙ c.in-Some.is ∙ ap Some w.in-Fill.is) in
-        let a = w.send_into-answer in
-        let t = told a.result in
-        record {
-          step = ap told w.answer-is ∙ sent c.loop-i.state c.loop-i.words a.new.out w.in-Fill.places a.result.value t few room a.ensures.result_value refl a.ensures.out_after a.auto.out ∙ ap (λ (o : Operation). step_of (Some o) c.loop-i.state) (sym w.in-Fill.is);
-          room = ap length w.words-is ∙ same c.loop-i.state c.loop-i.words a.new.out w.in-Fill.places a.result.value t few room a.ensures.result_value refl a.ensures.out_after a.auto.out;
-          few = omega (arith, w.sent-is, few, value_places c.loop-i.state c.loop-i.words a.new.out w.in-Fill.places a.result.value t few room a.ensures.result_value refl a.ensures.out_after a.auto.out);
-          sent = ap₂ take w.sent-is w.words-is ∙ its_words c.loop-i.state c.loop-i.words a.new.out w.in-Fill.places a.result.value t few room a.ensures.result_value refl a.ensures.out_after a.auto.out ∙ ap (λ (o : Operation). sent_words (Some o) c.loop-i.state) (sym w.in-Fill.is);
-        })
+      | in-Reset w ↦ plain room w.in-Reset.is w.hardware_reset-answer.ensures refl w.answer-is w.words-is w.sent-is
+      | in-Write w ↦ plain room w.in-Write.is w.write-answer.ensures refl w.answer-is w.words-is w.sent-is
+      | in-Read w ↦ plain room w.in-Read.is w.read-answer.ensures refl w.answer-is w.words-is w.sent-is
+      | in-Ticks w ↦ plain room w.in-Ticks.is w.timestamp_ticks-answer.ensures refl w.answer-is w.words-is w.sent-is
+      | in-Nodes w ↦ plain room w.in-Nodes.is w.node_ticks-answer.ensures refl w.answer-is w.words-is w.sent-is
+      | in-Events w ↦ plain room w.in-Events.is w.external_events-answer.ensures refl w.answer-is w.words-is w.sent-is
+      | in-Send w ↦ plain room w.in-Send.is (w.send_by-answer.ensures ∙ ap (λ (t : List ℕ). send_by t c.loop-i.state) c.parities-table.ensures ∙ send_by_lem c.loop-i.state) refl w.answer-is w.words-is w.sent-is
+      | in-Fill w ↦
+          (let few = few_places _ (sym c.decode.ensures ∙ c.in-Some.is ∙ ap Some w.in-Fill.is) in
+          let a = w.send_into-answer in
+          let t = told a.result in
+          record {
+            step = ap told w.answer-is ∙ sent c.loop-i.state c.loop-i.words a.new.out w.in-Fill.places a.result.value t few room a.ensures.result_value refl a.ensures.out_after a.auto.out ∙ ap (λ (o : Operation). step_of (Some o) c.loop-i.state) (sym w.in-Fill.is);
+            room = ap length w.words-is ∙ same c.loop-i.state c.loop-i.words a.new.out w.in-Fill.places a.result.value t few room a.ensures.result_value refl a.ensures.out_after a.auto.out;
+            few = omega (arith, w.sent-is, few, value_places c.loop-i.state c.loop-i.words a.new.out w.in-Fill.places a.result.value t few room a.ensures.result_value refl a.ensures.out_after a.auto.out);
+            sent = ap₂ take w.sent-is w.words-is ∙ its_words c.loop-i.state c.loop-i.words a.new.out w.in-Fill.places a.result.value t few room a.ensures.result_value refl a.ensures.out_after a.auto.out ∙ ap (λ (o : Operation). sent_words (Some o) c.loop-i.state) (sym w.in-Fill.is);
+          })
     ]
 
 pub loop-i-preserved-in_default : goal.loop-i-preserved-in_default

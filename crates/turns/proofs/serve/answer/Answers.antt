@@ -1,5 +1,5 @@
 -- `turns::serve::answer` meets its contract: the bytes that are run are what is due of those that have come. Assumes nothing.
-use Rattle.std.proofs.Common.{ℕ, ◌≡◌, ◌∙◌, ap, List, arith, take}
+use Rattle.std.proofs.Common.{ℕ, ◌≡◌, ◌∙◌, ap, List, take}
 use Rattle.turns.specs.Run.{due, input_chip, input_text}
 use Rattle.turns.proofs.RunLaws.{count_take}
 use Rattle.turns.proofs.TurnLaws.{due_take}

@@ -1,5 +1,5 @@
 -- `turns::serve::run_all` meets its contract: with room for all lines a block is the whole input's. Assumes nothing.
-use Rattle.std.proofs.Common.{ℕ, ◌++◌, ap, ap₂, ◌∙◌, refl, List, arith, length, take}
+use Rattle.std.proofs.Common.{ℕ, ap, ap₂, ◌∙◌, refl, List, arith, length, take}
 use Rattle.std.proofs.Math.ListN.{drop, length-append}
 use Rattle.std.proofs.Math.Seq.{take_at}
 use Rattle.turns.specs.Run.{input_text}
