@@ -1,5 +1,5 @@
 // The chip: one record by value, and each operation with the next record beside its reply.
-ghost use Rattle.std.specs.Prelude.{◌≡◌, ◌<◌, ◌^◌, get_or, length, set};
+ghost use Rattle.std.specs.Prelude.{◌≡◌, get_or, length, set};
 ghost use Rattle.chip.specs.Told.{told};
 ghost use Rattle.chip.specs.Table.{send_by};
 ghost use Rattle.chip.specs.Chip.{after_ticks, done, external_events, fresh, hard_reset, inside, node_ticks, read, read_at, read_counter, replied, sample_now, send, send_into, sent_buffer, soft_reset, take_sample, timestamp_ticks, trigger, trigger_by, fate_of, with_bank, with_choice, with_control, with_sources, with_stamp, with_switches, write, write_at};
@@ -307,11 +307,10 @@ impl Chip {
 
     // The Timestamp, the slow clock and the counters after some ticks.
     fn after_ticks(mut self, count: u32) -> Chip
-        requires { self.stamp < 2 ^ 56 }
         ensures { result ≡ after_ticks count self }
     {
         let slow = self.switches.slow_events(count);
-        self.stamp = (self.stamp + count as u64) % TWO_56;
+        self.stamp = self.stamp.wrapping_add(u64::from(count)) % TWO_56;
         self.bank = self.bank.ticked(self.switches, Kind::Slow, slow);
         self.switches = self.switches.ticking(count);
         self

@@ -384,10 +384,9 @@ impl Chip2 {
 
     // The Timestamp and the counters after some ticks of its clock.
     fn after_ticks(mut self, count: u32, levels: u16) -> Chip2
-        requires { self.stamp < 2 ^ 56 }
         ensures { result ≡ after_ticks count levels self }
     {
-        self.stamp = (self.stamp + count as u64) % TWO_56;
+        self.stamp = self.stamp.wrapping_add(u64::from(count)) % TWO_56;
         self.bank = ticked(self.bank, self.fields, levels, Clocks::of_stamp(count));
         self
     }
