@@ -1,12 +1,10 @@
 -- Laws of the clocks: the ticks of some and then more are those of all of them, and of none none, whichever clock a code selects. Assumes,
 -- where said, a phase below 100.
-use Rattle.std.proofs.Common.{◌≡◌, ℕ, ◌+◌, ◌/◌, ◌%◌, ◌<◌, Bool, true, false, cond, ◌&&◌, ◌||◌, sym, refl, ap, ◌∙◌, add_assoc, arith}
+use Rattle.std.proofs.Common.{◌≡◌, ℕ, ◌+◌, ◌/◌, ◌%◌, ◌<◌, sym, refl, ap, ◌∙◌, add_assoc, arith}
 use Rattle.std.proofs.lemmas.Bool.Decides.{nat_tests}
-use Rattle.counters.specs.Bank.{bit}
 use Rattle.counters.proofs.TickLaws.{events_sum}
 use Rattle.counters2.specs.Clocks.{node_clocks, phase_after, selected, stamp_clocks}
-use Rattle.counters2.specs.Codes.{by_clock, enabled, on_hundredth, on_node, on_stamp, on_tenth, while_high}
-use Rattle.counters2.specs.Counts.{enable_of, mode_of, own_ticks, select_of}
+use Rattle.counters2.specs.Counts.{own_ticks, select_of}
 use Rattle.counters2.specs.declared.clocks.Clocks.{Clocks}
 use Rattle.counters2.specs.declared.fields.Fields.{Fields}
 

@@ -1,6 +1,6 @@
 -- Laws of counting: which counters are upper halves, counting the same events, events twice and none. Place by place. Assumes nothing.
-use Rattle.std.proofs.Common.{◌≡◌, ℕ, zero, suc, ◌+◌, ◌-◌, ◌/◌, ◌%◌, ◌^◌, ◌<◌, Bool, true, false, cond, ◌&&◌, eqb, leb, List, length, get_or, sym, refl, ap, ◌∙◌, ap₂, add_assoc, arith, eq-eqb, ne_eqb, eqb-true}
-use mathlib.Core.Bool.{false≢true}
+use Rattle.std.proofs.Common.{◌≡◌, ℕ, zero, suc, ◌+◌, ◌-◌, ◌/◌, ◌%◌, ◌^◌, ◌<◌, Bool, true, false, cond, leb, List, length, get_or, sym, refl, ap, ◌∙◌, ap₂, add_assoc, arith}
+use Rattle.std.proofs.lemmas.Bool.Decides.{nat_tests}
 use Rattle.counters.specs.Bank.{each, grown}
 use Rattle.counters.specs.declared.bank.Bank.{Bank}
 use Rattle.counters.proofs.EachLaws.{each_at, each_is, each_length}
@@ -12,12 +12,11 @@ use Rattle.counters2.specs.Fields.{field_at}
 
 pub upper_odd : (mode i : ℕ) → i % 2 ≡ 1 → upper mode i ≡ leb 8 (field_at mode (i - 1))
 upper_odd mode zero h = absurd (omega arith)
-upper_odd mode (suc i) h =
-    ap₂ (λ (b : Bool) (j : ℕ). b && leb 8 (field_at mode j)) (eq-eqb (i % 2) 0 (omega arith)) (omega arith)
+upper_odd mode (suc i) h = grind (arith, nat_tests)
 
 pub upper_even : (mode i : ℕ) → (i % 2 ≡ 1 → ⊥) → upper mode i ≡ false
 upper_even mode zero h = refl
-upper_even mode (suc i) h = ap (λ (b : Bool). b && leb 8 (field_at mode i)) (ne_eqb (i % 2) 0 (λ e. h (omega arith)))
+upper_even mode (suc i) h = grind (arith, nat_tests)
 
 -- ---- the same events
 
@@ -44,11 +43,7 @@ module _ (mode : ℕ) (f g : ℕ → ℕ) (b : Bank) where
 -- a lower half is no upper half
 pub lower_plain : (mode i : ℕ) → upper mode (suc i) ≡ true → upper mode i ≡ false
 lower_plain mode zero e = refl
-lower_plain mode (suc i) e = go (eqb (suc i % 2) 0) refl e
-  where
-    go : (b : Bool) → eqb (suc i % 2) 0 ≡ b → (b && leb 8 (field_at mode (suc i))) ≡ true → upper mode (suc i) ≡ false
-    go true q p = upper_even mode (suc i) (λ o. let z : suc i % 2 ≡ 0 = eqb-true (suc i % 2) 0 q in omega arith)
-    go false q p = absurd (false≢true p)
+lower_plain mode (suc i) e = grind (arith, nat_tests)
 
 -- what a counter holds after some events
 pub counted_at : (mode : ℕ) (f : ℕ → ℕ) (b : Bank) (i : ℕ) → i < length b.values → get_or (counted mode f b).values i 0 ≡ grown (get_or b.values i 0) (reaching mode f b.values i)

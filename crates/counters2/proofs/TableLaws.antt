@@ -1,8 +1,7 @@
 -- The tables as printed say what a write of a register leaves in each field, which counters it resets, and which events count for a counter: each
 -- code is looked up by computation over the sixteen fields. Assumes a counter below 16.
-use Rattle.std.proofs.Common.{◌≡◌, ℕ, zero, suc, ◌*◌, ◌/◌, ◌%◌, ◌^◌, ◌<◌, Bool, true, false, cond, not, ◌&&◌, ◌||◌, eqb, leb, List, [], ◌∷◌, length, get_or, sym, refl, ap, ◌∙◌, mod-lt, zero-lt-suc, zero-add, arith, ne_eqb}
+use Rattle.std.proofs.Common.{◌≡◌, ℕ, zero, suc, ◌*◌, ◌/◌, ◌%◌, ◌^◌, ◌<◌, Bool, true, cond, not, ◌&&◌, ◌||◌, eqb, leb, List, [], ◌∷◌, length, get_or, sym, refl, ap, ◌∙◌, mod-lt, zero-lt-suc, zero-add, arith}
 use Rattle.std.proofs.lemmas.Bool.Decides.{nat_tests}
-use lib.ListN.{get_or-eq_default}
 use Rattle.words.proofs.TableLaws.{every, every_from}
 use Rattle.counters.specs.Bank.{bit}
 use Rattle.counters.specs.declared.bank.Bank.{Bank}
@@ -103,10 +102,7 @@ module _ (f : Fields) (i : ℕ) where
       go (suc (suc zero)) = refl
       go (suc (suc (suc zero))) = refl
       go (suc (suc (suc (suc zero)))) = refl
-      go (suc (suc (suc (suc (suc n))))) =
-          let other : (k : ℕ) → k < 5 → eqb (suc (suc (suc (suc (suc n))))) k ≡ false = λ k h. ne_eqb (suc (suc (suc (suc (suc n))))) k (λ e. omega arith) in
-          (λ j. cond (other 1 (omega arith) j) c.node (cond (other 2 (omega arith) j) c.tenth (cond (other 3 (omega arith) j) c.hundredth (cond (other 4 (omega arith) j) c.stamp 0))))
-          ∙ sym (get_or-eq_default (0 ∷ c.node ∷ c.tenth ∷ c.hundredth ∷ c.stamp ∷ []) 0 {n = suc (suc (suc (suc (suc n))))} (omega arith))
+      go (suc (suc (suc (suc (suc n))))) = grind (arith, nat_tests)
 
   pub ticks_due : (lines : ℕ) (c : Clocks) → own_ticks f lines c i ≡ cond (leb 2 (enable_says f i) && (eqb (mode_says f i) 1 || (eqb (mode_says f i) 3 && bit lines i))) (get_or (0 ∷ c.node ∷ c.tenth ∷ c.hundredth ∷ c.stamp ∷ []) (clock_says f i) 0) 0
   unfolding agree
