@@ -52,10 +52,3 @@ impl Reply {
         }
     }
 }
-
-// The number as a function.
-pub fn number_of(reply: Reply) -> u64
-    ensures { result ≡ reply_number reply }
-{
-    reply.number()
-}
