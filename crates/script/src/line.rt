@@ -69,10 +69,8 @@ fn put_digits(n: u64, out: &mut [u8], at: usize, size: usize)
     ensures { out.new ≡ sets out.old at (last_digits 10 size n) }
 {
     let mut rest = n;
-    let mut left = size;
-    while 0 < left {
-        left -= 1;
-        out[at + left] = (rest % 10) as u8 + 48;
+    for place in (0..size).rev() {
+        out[at + place] = (rest % 10) as u8 + 48;
         rest /= 10;
     }
 }

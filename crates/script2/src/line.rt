@@ -38,11 +38,9 @@ fn put_words(words: &[u16], out: &mut [u8], at: usize) -> usize
     ensures out_after { out.new ≡ sets out.old at (spaced words.now ++ (10 ∷ [])) }
 {
     let mut end = at;
-    let mut i = 0;
-    while i < words.len() {
+    for word in words {
         out[end] = 32;
-        end = put_word(words[i], out, end + 1);
-        i += 1;
+        end = put_word(*word, out, end + 1);
     }
     out[end] = 10;
     end + 1
