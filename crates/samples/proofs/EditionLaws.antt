@@ -1,6 +1,5 @@
 -- Laws of the two editions' widths: by cases on the edition. Assumes nothing.
-use Prim.Native.Nat.{ℕ, ◌+◌, ◌≤◌, ◌<◌, ◌^◌}
-use native.Mathlib.Omega.{arith}
+use Prim.Native.Nat.{ℕ, ◌+◌, ◌<◌, ◌^◌}
 use mathlib.Core.Path.{◌≡◌, refl}
 use mathlib.Core.Bool.{Bool, true, false}
 use lib.Dec.{leb}
@@ -10,16 +9,7 @@ use Rattle.samples.specs.Places.{counter_place, last_of, user_place}
 use Rattle.samples.specs.declared.edition.Edition.{Edition}
 use Rattle.samples.specs.declared.edition.Edition.TheVariants.{First, Second}
 
--- neither field has more bytes than a number of 64 bits
-pub stamp_few : (ed : Edition) → (widths ed).stamp_bytes ≤ 8
-stamp_few First = omega arith
-stamp_few Second = omega arith
-
-pub user_few : (ed : Edition) → (widths ed).user_bytes ≤ 8
-user_few First = omega arith
-user_few Second = omega arith
-
--- and the second edition's user data has all of them: no such number is above its width
+-- the second edition's user data has all bytes of a number of 64 bits: no such number is above its width
 pub user_never_above : (user : ℕ) → user < 2 ^ 64 → leb (256 ^ (widths Second).user_bytes) user ≡ false
 user_never_above user h = lt-leb (256 ^ 8) user h
 

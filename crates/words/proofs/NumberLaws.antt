@@ -29,11 +29,6 @@ number_more at p q size x b e told low here =
     go zero h = subst (λ (m : ℕ). at m b) (sym (add-zero q)) here
     go (suc k) h = let next : p + k ≡ q + suc k = omega arith in subst (λ (m : ℕ). at m (get_or told.bytes k 0)) next (told.each k (omega arith))
 
--- what holds of the byte at each place may be said otherwise
-pub number_as : {from : ℕ → ℕ → Type 0} (to : ℕ → ℕ → Type 0) {size x : ℕ} → IsNumberBy from size x → ((k v : ℕ) → k < size → from k v → to k v) → IsNumberBy to size x
-number_as to told same =
-    record { bytes = told.bytes; long = told.long; small = told.small; each = λ k h. same k (get_or told.bytes k 0) h (told.each k h); value = told.value }
-
 -- how large the number is
 pub number_small : {at : ℕ → ℕ → Type 0} {size x : ℕ} → IsNumberBy at size x → x < 256 ^ size
 number_small told = rw (told.value, ← told.long) (number_below told.bytes told.small)
