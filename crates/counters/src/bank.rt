@@ -107,10 +107,3 @@ pub fn each_value<F: Fn(usize, u32) -> u32>(mut values: [u32; 16], f: F) -> [u32
     }
     values
 }
-
-// One of two values.
-pub fn chosen<T: Copy>(old: T, yes: bool, new: T) -> T
-    ensures { result ≡ (if yes then new else old) }
-{
-    if yes { new } else { old }
-}

@@ -6,7 +6,8 @@ ghost use Rattle.counters2.specs.Counts.{counted, enable_of, fired, loaded, mode
 
 use super::clocks::Clocks;
 use super::fields::{Fields, field};
-use counters::bank::{Bank, chosen, each_value};
+use counters::bank::{Bank, each_value};
+use words::choice::chosen;
 
 const TWO_32: u64 = 1 << 32;
 

@@ -1,11 +1,9 @@
 -- Laws of the queue's definitions. Assumes nothing.
-use Prim.Native.Nat.{ℕ, suc, ◌<◌}
-use native.Mathlib.Nat.{suc-ne-zero, suc_inj}
+use Prim.Native.Nat.{ℕ, ◌<◌}
 use mathlib.Core.Path.{◌≡◌, refl, sym, ap, ◌∙◌}
 use mathlib.Core.Bool.{Bool, true, false, cond, ◌||◌}
-use mathlib.Core.List.{List, [], ◌∷◌, ◌++◌}
-use lib.ListN.{length, take, drop, set, replicate}
-use lib.Seq.{set_at}
+use mathlib.Core.List.{List, [], ◌∷◌}
+use lib.ListN.{length, replicate}
 use Rattle.std.specs.List.{list_any}
 use Rattle.words.proofs.WordLaws.{word_some}
 use Rattle.samples.specs.Layout.{Widths, resource}
@@ -14,11 +12,6 @@ use Rattle.samples.proofs.SampleLaws.{sample_word}
 use Rattle.queue.specs.Queue.{any_resource, first_count, first_held, held_sample, next_word}
 use Rattle.queue.specs.declared.queue.Held.{Held}
 use Rattle.queue.specs.declared.queue.Queue.{Queue}
-
--- turned by one place and with another element last, the elements are those without the first, and that one
-pub turned : {A : Type 0} (xs : List A) (d : A) (n : ℕ) → length xs ≡ suc n → set (drop 1 xs ++ take 1 xs) n d ≡ drop 1 xs ++ (d ∷ [])
-turned [] d n e = absurd (suc-ne-zero _ (sym e))
-turned (x ∷ xs) d n e = set_at xs x [] d n (suc_inj e)
 
 -- a Resource sample among some, in the words of the library
 pub any_list : (hs : List Held) → any_resource hs ≡ list_any (λ (h : Held). resource h.header) hs

@@ -206,14 +206,15 @@ impl Queue {
     }
 
     // The others move down, and the last place is empty.
-    fn shifted(mut self) -> Queue
+    fn shifted(self) -> Queue
         ensures { result ≡ shifted self }
     {
-        self.places.rotate_left(1);
-        self.places[7] = NO_SAMPLE;
-        self.held = self.held.saturating_sub(1);
-        self.sent = 0;
-        self
+        let [_, a, b, c, d, e, f, g] = self.places;
+        Queue {
+            places: [a, b, c, d, e, f, g, NO_SAMPLE],
+            held: self.held.saturating_sub(1),
+            sent: 0,
+        }
     }
 }
 

@@ -1,9 +1,9 @@
-// A byte of a sample as a ten-bit word of the stream and back, the bytes of a number, and the least of two sizes.
+// A byte of a sample as a ten-bit word of the stream and back, a number from its bytes and back, and a choice of two values.
 #![tactic(auto)]
 
 pub mod byte;
+pub mod choice;
 pub mod number;
 pub mod parity;
-pub mod size;
 pub mod table;
 pub mod word;
