@@ -5,42 +5,35 @@ use samples::edition::Edition;
 use samples::sample::Sample;
 use samples::writer::write;
 
-// Where the second sample starts, the Resource sample: the length of a Trace sample.
-pub fn second_start(edition: Edition) -> usize
-    ensures { result ≤ 20 }
-{
-    match edition {
-        Edition::First => 16,
-        Edition::Second => 20,
-    }
+// Where the samples behind the first start, and where the last one ends.
+#[derive(Clone, Copy)]
+pub struct Starts {
+    // The Resource sample.
+    pub second: usize,
+    pub third: usize,
+    pub fourth: usize,
+    pub end: usize,
 }
 
-// The third, and the fourth.
-pub fn third_start(edition: Edition) -> usize
-    ensures { (96 ≤ result) × (result ≤ 104) }
+pub fn starts_of(edition: Edition) -> Starts
+    ensures second_bound { result.second ≤ 20 }
+    ensures third_bounds { (96 ≤ result.third) × (result.third ≤ 104) }
+    ensures fourth_bound { result.fourth ≤ 124 }
+    ensures end_bounds { (128 ≤ result.end) × (result.end ≤ 144) }
 {
     match edition {
-        Edition::First => 96,
-        Edition::Second => 104,
-    }
-}
-
-pub fn fourth_start(edition: Edition) -> usize
-    ensures { result ≤ 124 }
-{
-    match edition {
-        Edition::First => 112,
-        Edition::Second => 124,
-    }
-}
-
-// How many words they have together.
-pub fn length(edition: Edition) -> usize
-    ensures { (128 ≤ result) × (result ≤ 144) }
-{
-    match edition {
-        Edition::First => 128,
-        Edition::Second => 144,
+        Edition::First => Starts {
+            second: 16,
+            third: 96,
+            fourth: 112,
+            end: 128,
+        },
+        Edition::Second => Starts {
+            second: 20,
+            third: 104,
+            fourth: 124,
+            end: 144,
+        },
     }
 }
 
@@ -53,10 +46,11 @@ pub fn good(edition: Edition) -> [u16; 144] {
     counters[15] = 7;
     let second_one = sample(9, 6, 4, 259, counters);
     let mut words = [65535u16; 144];
+    let starts = starts_of(edition);
     put(edition, first, &mut words, 0);
-    put(edition, second_one, &mut words, second_start(edition));
-    put(edition, third_one, &mut words, third_start(edition));
-    put(edition, fourth_one, &mut words, fourth_start(edition));
+    put(edition, second_one, &mut words, starts.second);
+    put(edition, third_one, &mut words, starts.third);
+    put(edition, fourth_one, &mut words, starts.fourth);
     words
 }
 

@@ -14,10 +14,10 @@ const HEADER: u16 = 256 + 32;
 
 // Damage to the Resource sample's first word, to one among its counters, and to its last.
 fn each_place(edition: Edition, bits: u16, first: &[u8], middle: &[u8], last: &[u8]) {
-    let start = captures::second_start(edition);
+    let start = captures::starts_of(edition).second;
     one_damaged(edition, first, start, bits);
     one_damaged(edition, middle, start + 30, bits);
-    one_damaged(edition, last, captures::third_start(edition) - 1, bits);
+    one_damaged(edition, last, captures::starts_of(edition).third - 1, bits);
 }
 
 // One damaged word.
@@ -31,7 +31,7 @@ fn one_damaged(edition: Edition, name: &[u8], place: usize, bits: u16) {
 
 // The whole capture.
 fn whole_capture(edition: Edition, name: &[u8], words: [u16; 144]) {
-    walking::over_first(edition, name, words, captures::length(edition), 0);
+    walking::over_first(edition, name, words, captures::starts_of(edition).end, 0);
 }
 
 // The numbers 21 to 24.
@@ -53,7 +53,7 @@ pub fn numbers(edition: Edition) {
     one_damaged(
         edition,
         b"header bit 5",
-        captures::second_start(edition),
+        captures::starts_of(edition).second,
         HEADER,
     );
     each_place(
@@ -67,11 +67,11 @@ pub fn numbers(edition: Edition) {
 
 // What ends a gap, and what is read after it: the last words of a damaged Resource sample may be a whole Trace sample.
 pub fn boundaries(edition: Edition) {
-    let second = captures::second_start(edition);
+    let second = captures::starts_of(edition).second;
     one_damaged(
         edition,
         b"rest is a sample",
-        captures::third_start(edition) - 1 - second,
+        captures::starts_of(edition).third - 1 - second,
         MARK,
     );
     let bad = captures::flipped(captures::good(edition), second + 30, PARITY);
@@ -90,14 +90,14 @@ pub fn boundaries(edition: Edition) {
 
 // A gap that ends with the capture.
 pub fn up_to_the_end(edition: Edition) {
-    let fourth = captures::fourth_start(edition);
+    let fourth = captures::starts_of(edition).fourth;
     let bad = captures::flipped(captures::good(edition), fourth + 5, PARITY);
     walking::over_first(edition, b"no boundary", bad, fourth + 10, 0);
     whole_capture(edition, b"boundary at the end", bad);
     one_damaged(
         edition,
         b"no end mark at the end",
-        captures::length(edition) - 1,
+        captures::starts_of(edition).end - 1,
         MARK,
     );
 }
@@ -105,8 +105,8 @@ pub fn up_to_the_end(edition: Edition) {
 // Gaps in a row, and the words 768, 512 and 544, each a gap by itself: by its end mark, its parity and its header.
 pub fn in_a_row(edition: Edition) {
     let good = captures::good(edition);
-    let third = captures::third_start(edition);
-    let once = captures::flipped(good, captures::second_start(edition) + 30, PARITY);
+    let third = captures::starts_of(edition).third;
+    let once = captures::flipped(good, captures::starts_of(edition).second + 30, PARITY);
     whole_capture(
         edition,
         b"two gaps",

@@ -10,7 +10,7 @@ pub fn whole(edition: Edition) {
         edition,
         b"whole",
         captures::good(edition),
-        captures::fourth_start(edition),
+        captures::starts_of(edition).fourth,
         0,
     );
 }
@@ -21,7 +21,7 @@ pub fn middle(edition: Edition) {
     from(
         edition,
         b"from a Resource sample's middle",
-        captures::second_start(edition) + 30,
+        captures::starts_of(edition).second + 30,
     );
 }
 
@@ -30,14 +30,14 @@ fn from(edition: Edition, name: &[u8], start: usize) {
         edition,
         name,
         captures::good(edition),
-        captures::length(edition),
+        captures::starts_of(edition).end,
         start,
     );
 }
 
 // At the end and past it.
 pub fn end(edition: Edition) {
-    let end = captures::length(edition);
+    let end = captures::starts_of(edition).end;
     from(edition, b"end", end);
     from(edition, b"past the end", end + 1);
     from(edition, b"past the end", MAX);
@@ -49,7 +49,7 @@ pub fn end(edition: Edition) {
 // A capture that ends inside a sample.
 pub fn cut(edition: Edition) {
     let good = captures::good(edition);
-    let third = captures::third_start(edition);
+    let third = captures::starts_of(edition).third;
     walking::over_first(edition, b"cut Trace", good, third + 8, 0);
     walking::over_first(edition, b"cut Trace", good, third + 8, third + 4);
     walking::over_first(edition, b"cut Resource", good, third - 1, 0);
@@ -61,7 +61,7 @@ pub fn other_edition(edition: Edition, other: Edition) {
         edition,
         b"other edition",
         captures::good(other),
-        captures::length(other),
+        captures::starts_of(other).end,
         0,
     );
 }
