@@ -6,40 +6,34 @@ use printing::print;
 use samples::edition::Edition;
 use samples::reader::read;
 
-// The first `count` words of a part, once the case has its name.
-fn first(edition: Edition, part: &[u16], count: usize)
-    requires { count ≤ length part.now }
-{
+// The first `count` words of a part, or all of a shorter one, once the case has its name.
+fn first(edition: Edition, part: &[u16], count: usize) {
+    let count = count.min(part.len());
     show::rest(read(edition, &part[..count]));
 }
 
-fn with_word(mut words: [u16; 100], place: usize, word: u16) -> [u16; 100]
-    requires { place < 100 }
-{
-    words[place] = word;
+// With another word at a place; past the last nothing changes.
+fn with_word(mut words: [u16; 100], place: usize, word: u16) -> [u16; 100] {
+    if place < 100 {
+        words[place] = word;
+    }
     words
 }
 
 // A sample's words with another word at a place, which the name ends with.
-fn changed(edition: Edition, name: &[u8], resource: bool, place: usize, word: u16)
-    requires { place < 100 }
-{
+fn changed(edition: Edition, name: &[u8], resource: bool, place: usize, word: u16) {
     show::case(b"read ", edition, name);
-    print::field(b"word ", (place + 1) as u64);
+    print::field(b"word ", place.saturating_add(1) as u64);
     print::field(b" is ", word as u64);
     let part = with_word(given::words(edition, resource), place, word);
     first(edition, &part, given::length(edition, resource));
 }
 
-fn trace(edition: Edition, place: usize, word: u16)
-    requires { place < 100 }
-{
+fn trace(edition: Edition, place: usize, word: u16) {
     changed(edition, b"", false, place, word);
 }
 
-fn resource(edition: Edition, place: usize, word: u16)
-    requires { place < 100 }
-{
+fn resource(edition: Edition, place: usize, word: u16) {
     changed(edition, b"Resource, ", true, place, word);
 }
 
@@ -52,9 +46,7 @@ fn trace_two(
     later: usize,
     other: u16,
     count: usize,
-)
-    requires { (place < 100) × (later < 100) × (count ≤ 100) }
-{
+) {
     show::case(b"read ", edition, name);
     let once = with_word(given::words(edition, false), place, word);
     let part = with_word(once, later, other);
@@ -62,9 +54,7 @@ fn trace_two(
 }
 
 // The first words of a sample as edition `from` has it.
-fn part(edition: Edition, name: &[u8], from: Edition, resource: bool, count: usize)
-    requires { count ≤ 100 }
-{
+fn part(edition: Edition, name: &[u8], from: Edition, resource: bool, count: usize) {
     show::case(b"read ", edition, name);
     if count < given::length(from, resource) {
         show::words(count);

@@ -48,9 +48,8 @@ fn write_from(edition: Edition, sample: Sample, words: &mut [u16], at: usize)
     let _ = write(edition, sample, &mut words[at..]);
 }
 
-fn read_first(edition: Edition, name: &[u8], words: &[u16], count: usize)
-    requires { count ≤ length words.now }
-{
+fn read_first(edition: Edition, name: &[u8], words: &[u16], count: usize) {
+    let count = count.min(words.len());
     read_on(edition, name, &words[..count]);
 }
 

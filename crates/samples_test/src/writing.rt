@@ -13,23 +13,18 @@ fn write_first(
     sample: Sample,
     buffer: &mut [u16],
     room: usize,
-) -> Result<usize, WriteError>
-    requires { room ≤ length buffer.old }
-{
+) -> Result<usize, WriteError> {
+    let room = room.min(buffer.len());
     write(edition, sample, &mut buffer[..room])
 }
 
-fn written(edition: Edition, name: &[u8], sample: Sample, room: usize)
-    requires { room ≤ 100 }
-{
+fn written(edition: Edition, name: &[u8], sample: Sample, room: usize) {
     show::case(b"write ", edition, name);
     named(edition, sample, room);
 }
 
 // The same once the case has its name, but for the room.
-fn named(edition: Edition, sample: Sample, room: usize)
-    requires { room ≤ 100 }
-{
+fn named(edition: Edition, sample: Sample, room: usize) {
     show::room(room);
     let mut buffer = [given::MARK; 100];
     let answer = write_first(edition, sample, &mut buffer, room);
@@ -37,36 +32,28 @@ fn named(edition: Edition, sample: Sample, room: usize)
 }
 
 // With a few places, with one too few, and with just enough.
-fn rooms(edition: Edition, name: &[u8], sample: Sample, few: usize, enough: usize)
-    requires { (few ≤ 100) × (1 ≤ enough) × (enough ≤ 100) }
-{
+fn rooms(edition: Edition, name: &[u8], sample: Sample, few: usize, enough: usize) {
     written(edition, name, sample, few);
-    written(edition, name, sample, enough - 1);
+    written(edition, name, sample, enough.saturating_sub(1));
     written(edition, name, sample, enough);
 }
 
 // A header with bits of which some are above 4.
-fn header_above(edition: Edition, header: u32, room: usize)
-    requires { room ≤ 100 }
-{
+fn header_above(edition: Edition, header: u32, room: usize) {
     show::case(b"write ", edition, b"header ");
     print::number(header as u64);
     named(edition, given::sample(header, 5, 3, 258), room);
 }
 
 // A sample that is named by what is above its width.
-fn above(edition: Edition, name: &[u8], field: &[u8], sample: Sample, room: usize)
-    requires { room ≤ 100 }
-{
+fn above(edition: Edition, name: &[u8], field: &[u8], sample: Sample, room: usize) {
     show::case(b"write ", edition, name);
     print::text(field);
     named(edition, sample, room);
 }
 
 // A Timestamp above its width.
-fn stamp_above(edition: Edition, name: &[u8], header: u32, room: usize)
-    requires { room ≤ 100 }
-{
+fn stamp_above(edition: Edition, name: &[u8], header: u32, room: usize) {
     let stamped = |stamp: u64| given::sample(header, 5, stamp, 258);
     match edition {
         Edition::First => above(edition, name, b"stamp 2^40", stamped(given::TWO_40), room),
@@ -75,9 +62,7 @@ fn stamp_above(edition: Edition, name: &[u8], header: u32, room: usize)
 }
 
 // User data above its width; the second edition has none above it, and the largest goes in.
-fn user_above(edition: Edition, name: &[u8], header: u32, room: usize)
-    requires { room ≤ 100 }
-{
+fn user_above(edition: Edition, name: &[u8], header: u32, room: usize) {
     let used = |user: u64| given::sample(header, 5, 3, user);
     match edition {
         Edition::First => above(edition, name, b"user 2^48", used(given::TWO_48), room),
@@ -86,9 +71,7 @@ fn user_above(edition: Edition, name: &[u8], header: u32, room: usize)
 }
 
 // A Trace sample whose counter at a place isn't zero.
-fn counter_above(edition: Edition, place: usize, room: usize)
-    requires { room ≤ 100 }
-{
+fn counter_above(edition: Edition, place: usize, room: usize) {
     show::case(b"write ", edition, b"Trace, counter ");
     print::number(place as u64);
     print::text(b" is 1");
@@ -120,9 +103,8 @@ pub fn marked_example(edition: Edition) {
     );
 }
 
-fn first_bytes(edition: Edition, name: &[u8], words: &[u16], count: usize)
-    requires { count ≤ length words.now }
-{
+fn first_bytes(edition: Edition, name: &[u8], words: &[u16], count: usize) {
+    let count = count.min(words.len());
     show::bytes(edition, name, &words[..count]);
 }
 
