@@ -1,5 +1,4 @@
 // The writer's cases. Each buffer has 100 places with a mark in each, and the writer is lent the first `room`.
-ghost use Rattle.std.specs.Prelude.{◌≤◌, length};
 
 use super::{given, show};
 use printing::print;
