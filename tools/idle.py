@@ -97,7 +97,7 @@ VERSIONS = {
             ('crates/queue/specs/Table.antt', 'Prelude.{ℕ, cond, ', 'Prelude.{ℕ, ◌%◌, cond, '),
             ('crates/queue/proofs/TableLaws.antt', 'get_or ws q.sent 0', 'get_or ws (q.sent % 1) 0'),
             ('crates/queue/proofs/TableLaws.antt', 'first) q.sent', 'first) (q.sent % 1)', 2),
-            ('crates/queue/proofs/QueueLaws.antt', 'use Prim.Native.Nat.{ℕ, suc, ◌<◌}', 'use Prim.Native.Nat.{ℕ, suc, ◌%◌, ◌≤◌, ◌<◌}\nuse native.Mathlib.Omega.{arith}'),
+            ('crates/queue/proofs/QueueLaws.antt', 'use Prim.Native.Nat.{ℕ, ◌<◌}', 'use Prim.Native.Nat.{ℕ, ◌%◌, ◌≤◌, ◌<◌}\nuse native.Mathlib.Omega.{arith}'),
             ('crates/queue/proofs/QueueLaws.antt', 'sixteen) q.sent h) ∙ e)', 'sixteen) (q.sent % 1) (omega arith)) ∙ e)'),
             ('crates/queue/proofs/queue/Queue/next_word/Answers.antt', 'use native.Mathlib.Omega.{arith}', 'use Prim.Native.Nat.{◌%◌}\nuse native.Mathlib.Omega.{arith}'),
             ('crates/queue/proofs/queue/Queue/next_word/Answers.antt', '(add-one a.self.sent)', '(add-one (a.self.sent % 1))'),
