@@ -1,10 +1,12 @@
 #!/usr/bin/env python3
-"""figures.py GATE_LOG > docs/FIGURES.md: sizes and times of the project.
+"""figures.py [GATE_LOG] > docs/FIGURES.md: sizes and times of the project.
 
 Sizes are counted from the files; check times, the gate's time and its verdict are read from a log of the gate:
 
     (time .ci/run) > gate.log 2>&1
     tools/figures.py gate.log > docs/FIGURES.md
+
+Without a log it gives the sizes alone.
 
 A line of code, specs or proof is a line that is neither blank nor only a comment.
 """
@@ -44,7 +46,7 @@ def statements(text):
             fields = True
         elif not line.startswith(' '):
             fields = False
-        if not fields and re.match(r' *pub [^\s:]+ : ', line) and not re.match(r'pub \S+-spec : ', line):
+        if not fields and re.match(r' *pub [^\s:]+ : ', line) and not re.search(r' : goal\.\S+$', line):
             count += 1
     return count
 
@@ -72,10 +74,12 @@ def clock(log, word):
 
 
 def main():
-    if len(sys.argv) != 2:
+    if len(sys.argv) > 2:
         sys.exit(__doc__)
-    with open(sys.argv[1], encoding='utf-8', errors='replace') as file:
-        log = file.read()
+    log = ''
+    if sys.argv[1:]:
+        with open(sys.argv[1], encoding='utf-8', errors='replace') as file:
+            log = file.read()
     seconds = dict(re.findall(r'^rt: (\w+) proved \((\d+) s\)', log, re.M))
     edit_times = [int(n) for n in re.findall(r'^rt: must-fail \S+: refused.*?(\d+) s\)', log, re.M)]
     verdict = re.findall(r'^\d+ passed, \d+ failed', log, re.M)
@@ -89,8 +93,10 @@ def main():
         code, source = lines_of(os.path.join(base, 'src'), '.rt', '//')
         specs, definitions = lines_of(os.path.join(base, 'specs'), '.antt', '--')
         proof, proved = lines_of(os.path.join(base, 'proofs'), '.antt', '--')
-        functions = len(re.findall(r'^\s*(?:pub )?fn ', source, re.M))
-        defined = len(re.findall(r'^(?:unfoldable |abbrev )?(?:pub )?(?:data |record )?[^\s:]+ : .*|^pub (?:data|record) ', definitions, re.M))
+        bodies = re.sub(r'^(?:pub )?trait .*?^}', '', source, flags=re.M | re.S)
+        functions = len(re.findall(r'^\s*(?:pub )?fn ', bodies, re.M))
+        named = r'^(?:unfoldable |abbrev )?(?:pub )?(?:data |record )?[^\s:]+ : .*|^ *pub (?:data|record) |^ +(?:unfoldable|abbrev) '
+        defined = len(re.findall(named, definitions, re.M))
         theorems = statements(proved)
         folder = os.path.join(base, 'must-fail')
         edits = len([n for n in os.listdir(folder) if n.endswith('.edit')]) if os.path.isdir(folder) else 0
@@ -99,15 +105,15 @@ def main():
         rows.append((name, row))
 
     print('# Figures\n')
-    print('Made by `tools/figures.py` from the files and a log of the gate; see there how to make them again.\n')
+    print('Made by `tools/figures.py` from the files%s; see there how to make them again.\n' % (' and a log of the gate' if log else ' alone, without the times of a gate'))
     if kit:
         print(f'Kit: `{kit.group(1)}`.\n')
     print(f'Crates: {len(rows)}.\n')
-    print('| crate | functions | definitions | laws and theorems | must-fail edits | lines of code | of specs | of proof | check, s |')
-    print('|---|---|---|---|---|---|---|---|---|')
-    for name, row in rows:
-        print('| `%s` | %s |' % (name, ' | '.join(str(n) for n in row)))
-    print('| all | %s |' % ' | '.join(str(n) for n in total))
+    heads = ['functions', 'definitions', 'laws and theorems', 'must-fail edits', 'lines of code', 'of specs', 'of proof', 'check, s'][: None if seconds else -1]
+    print('| crate | %s |' % ' | '.join(heads))
+    print('|' + '---|' * (len(heads) + 1))
+    for name, row in rows + [('all', total)]:
+        print('| %s | %s |' % (name if name == 'all' else f'`{name}`', ' | '.join(str(n) for n in row[: len(heads)])))
     print()
     if total[4]:
         print(f'Proof lines for each line of code: {total[6] / total[4]:.1f} (with specs {(total[5] + total[6]) / total[4]:.1f}).\n')
