@@ -2,12 +2,18 @@
 #![tactic(auto)]
 
 use script::block::Bench;
+use std::marker::PhantomData;
 use std::process::ExitCode;
-use turns::serve::run;
+use turns::serve::{Lent, run};
 
 fn main(rt: HostRuntime) -> ExitCode {
     // 4,096 records, and 42 bytes of text for each.
     let mut records = [0u8; 49152];
     let mut lines = [0u8; 172032];
-    run::<Bench>(&rt, "bench", &mut records, &mut lines)
+    let lent = Lent::<Bench> {
+        format: PhantomData,
+        input: &mut records,
+        text: &mut lines,
+    };
+    run(&rt, "bench", lent)
 }

@@ -1,5 +1,4 @@
 // The reader's cases: good words from the papers, with a word or two changed.
-
 use super::{given, show};
 use printing::print;
 use samples::edition::Edition;

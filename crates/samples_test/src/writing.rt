@@ -1,5 +1,4 @@
 // The writer's cases. Each buffer has 100 places with a mark in each, and the writer is lent the first `room`.
-
 use super::{given, show};
 use printing::print;
 use samples::edition::Edition;

@@ -6,6 +6,7 @@ ghost use Rattle.turns.specs.Turn.{Stopped, Turned};
 use super::format::{Block, Format};
 use std::io;
 use std::io::{Read, Write};
+use std::marker::PhantomData;
 use std::process::ExitCode;
 
 // What stands between two reads: the chip; how many bytes of the input's buffer have come, and of the text's were handed to the write; whether
@@ -25,17 +26,25 @@ enum Failure {
     Write(io::Error),
 }
 
+// A format and the two buffers that its program lends: for the input, and for the text with room for the lines of all records that the input's
+// buffer holds.
+#[derive(Drop)]
+pub struct Lent<'a, F: Format> {
+    pub format: PhantomData<F>,
+    pub input: &'a mut [u8],
+    pub text: &'a mut [u8],
+    pub ghost record: { F.SIZE ≤ length input.now },
+    pub ghost lines: { F.form.room * record_count F.form (length input.now) ≤ length text.now },
+}
+
 // Runs a format's records from standard input, and writes a heading and a line for each to standard output. A call that fails is named on
 // standard error, behind the program's name.
-pub fn run<F: Format>(
-    rt: &HostRuntime,
-    program: &str,
-    input: &mut [u8],
-    text: &mut [u8],
-) -> ExitCode
-    requires in_bounds { F.SIZE ≤ length input.old }
-    requires input_in_bounds { F.form.room * record_count F.form (length input.old) ≤ length text.old }
-{
+pub fn run<F: Format>(rt: &HostRuntime, program: &str, lent: Lent<'_, F>) -> ExitCode {
+    let Lent {
+        format: _,
+        input,
+        text,
+    } = lent;
     match serve::<F>(rt, input, text) {
         Ok(()) => ExitCode::SUCCESS,
         Err(failure) => {
