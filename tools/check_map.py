@@ -26,8 +26,7 @@ Of the files themselves:
 - Every old text of an edit, in the gate or in tools/edits, or of a version
   occurs as often as it has to in the file that it changes.
 - No public function has a `requires`, of a program neither, but for the three
-  of MAY_CALL, which ask only that the closure that they are lent may be called,
-  and the one of MAY_ASK.
+  of MAY_CALL, which ask only that the closure that they are lent may be called.
 
 Faults are listed, and the status is 1; else one line says what was checked.
 """
@@ -51,11 +50,8 @@ ALLOWED = {"Result", "pub", "requires", "src", "u32", "u64", "use"}
 # Definitions that no theorem stands on: they are the test programs'.
 NOT_READ = {"printing"}
 
-# The public functions that ask that a closure of their caller's may be called, with what they call it with; nothing else.
+# The public functions that ask that a closure of their caller's may be called with what they call it with, and nothing else.
 MAY_CALL = {"words::number::number_by", "counters::bank::each_value", "chip_test::addresses::sweep"}
-# The loop of the two programs of records: their mains alone call it, with buffers of a fixed size, and show that these have the room that it
-# asks for (bench/text_one_byte_short is refused). A loop of reads and writes is no operation of the chips.
-MAY_ASK = {"turns::serve::run"}
 # `F.pre f i v`, or `F.IsAlwaysCallable f`, for all numbers below a bound.
 CALLABLE = re.compile(r"\s*requires \{ (?:\([\w ]+ : ℕ\) → (?:\w+ < \w+ → )*F\.pre|F\.IsAlwaysCallable) [\w ]+ \}")
 
@@ -293,9 +289,9 @@ def check_asks(inside):
             if here in public and re.match(r"\s*requires\b", line):
                 name = "::".join(here)
                 asked.add(name)
-                if not (name in MAY_ASK or name in MAY_CALL and CALLABLE.fullmatch(line)):
+                if name not in MAY_CALL or not CALLABLE.fullmatch(line):
                     faults.append(f"{path}: the public function {name} asks something of its caller")
-    return faults + [f"tools/check_map.py: {name} asks nothing" for name in sorted((MAY_ASK | MAY_CALL) - asked)]
+    return faults + [f"tools/check_map.py: {name} asks nothing" for name in sorted(MAY_CALL - asked)]
 
 
 def main():
