@@ -50,7 +50,7 @@ pub fn run_block(chip: Chip, input: &[u8], out: &mut [u8]) -> Block<Chip>
     let mut at = 0;
     for i in 0..count {
         let start = 12 * i;
-        let end = (start + 12).min(input.len());
+        let end = start + (input.len() - start).min(12);
         let outcome = run_by(&table, state, decode(&input[start..end]));
         at = put_line(outcome.number, outcome.value, out, at);
         state = outcome.chip;

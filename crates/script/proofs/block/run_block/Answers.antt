@@ -1,6 +1,6 @@
 -- `script::block::run_block` meets its contract: one record more is its step on the chip, for the table that is lent is the table of parity
 -- bits, and its line behind the others. Assumes nothing.
-use Prim.Native.Nat.{ℕ, ◌+◌, ◌-◌, ◌*◌, ◌≤◌}
+use Prim.Native.Nat.{ℕ, ◌+◌, ◌-◌, ◌*◌, ◌≤◌, min}
 use native.Mathlib.Omega.{arith}
 use mathlib.Core.Path.{◌≡◌, ap, ap₂, ◌∙◌}
 use mathlib.Core.List.{List}
@@ -27,7 +27,8 @@ loop-i-preserved c =
     let v = c.loop-i in
     let o = c.run_by-outcome.result in
     let bytes : List ℕ = take 12 (drop (12 * v.i) a.input.now) in
-    let part = ap (λ (k : ℕ). take (k - 12 * v.i) (drop (12 * v.i) a.input.now)) c.min-end.ensures ∙ record_part 12 a.input.now (12 * v.i) in
+    let end : 12 * v.i + c.min.result ≡ min (12 * v.i + 12) (length a.input.now) = omega (arith, c.min.ensures) in
+    let part = ap (λ (k : ℕ). take (k - 12 * v.i) (drop (12 * v.i) a.input.now)) end ∙ record_part 12 a.input.now (12 * v.i) in
     let step : o ≡ outcome_by bytes v.state = c.run_by-outcome.ensures ∙ ap₂ (λ (t : List ℕ) (p : Option Operation). run_by t p v.state) c.parities-table.ensures (c.decode.ensures ∙ ap operation_of part) ∙ run_by_lem (operation_of bytes) v.state in
     let fits : v.at + 42 ≤ length v.out = omega (arith, v.invariant.within, v.invariant.long) in
     ran_on bench v.invariant (omega arith) (ap (λ (r : Outcome). r.chip) step) (ap (λ (r : Outcome). answer_line r.number r.value) step) (c.put_line-at.ensures.value ∙ end_fits o.number o.value (length v.out) v.at fits) (omega (arith, c.put_line-at.ensures.value, end_fits o.number o.value (length v.out) v.at fits, line_bound o.number o.value)) (c.put_line-at.ensures.out_after ∙ buffer_fits o.number o.value v.out v.at fits)
