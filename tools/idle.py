@@ -236,9 +236,11 @@ VERSIONS = {
         ], [], [('chip', 'all_rows')]),
     'every_value_0': (
         'the value of every reply 0 is 0, so every word sent and every count of a buffer send is', [
-            ('crates/chip/src/chip.rt', '            value,\n', '            value: value % 1,\n'),
+            ('crates/control/src/answer.rt', '            value,\n', '            value: value % 1,\n'),
+            ('crates/control/src/answer.rt', 'Prelude.{◌≡◌}', 'Prelude.{◌≡◌, ◌%◌}'),
+            ('crates/control/src/answer.rt', 'told_row (row_of Done value) chip', 'told_row (row_of Done (value % 1)) chip'),
             ('crates/chip/specs/Chip.antt', 'done value c = told_row (row_of Done value) c', 'done value c = told_row (row_of Done (value % 1)) c'),
-        ], [], [('chip', 'given_sends')]),
+        ], ['control'], [('chip', 'given_sends')]),
     'reset_only_clears_counters': (
         'a write at 0 clears the counters of its set bits and nothing else', [
             ('crates/chip/src/place.rt', '0 => Place::Reset,', '0 => Place::Clear,'),

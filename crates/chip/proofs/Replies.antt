@@ -13,13 +13,13 @@ use Rattle.queue.specs.Queue.{busy}
 use Rattle.control.specs.Control.{waited}
 use Rattle.control.specs.Fate.{fate}
 use Rattle.control.specs.declared.reply.Reply.TheVariants.{Lines, NoWord, Wait, Busy, Outside}
-use Rattle.control.proofs.ReplyLaws.{reply_one}
+use Rattle.control.proofs.ReplyLaws as answers
 use Rattle.chip.specs.Chip.{done, external_events, inside, lacks_room, line_of, node_ticks, one_line, read, read_at, read_counter, replied, send, send_into, timestamp_ticks, trigger, trigger_by, with_bank, with_control, write, write_at}
 use Rattle.chip.specs.Operation.{Operation, op_reset, op_write, op_read, op_ticks, op_nodes, op_events, op_send, op_fill, step}
 use Rattle.chip.specs.Place.{place_of, register_of}
 use Rattle.chip.specs.Rows.{counter_at, lacking, mapped, one_active, passes, read_only, row0, row1, row2, row3, row4, row5, row6, row7, row8, row10, row11, row15, trigger_case, triggering, vacant, write_only}
 use Rattle.chip.specs.Told.{Told, told}
-use Rattle.chip.specs.declared.chip.Answer.{Answer}
+use Rattle.control.specs.declared.answer.Answer.{Answer}
 use Rattle.chip.specs.declared.chip.Chip.{Chip}
 use Rattle.chip.specs.declared.place.Place.{Place}
 use Rattle.chip.specs.declared.place.Place.TheVariants.{Trigger}
@@ -294,7 +294,5 @@ no_others op c =
 
 -- an operation's promise, `told r` equal to a definition, leaves one answer, since replies of one number are one reply; a lent buffer's is
 -- an equation with the whole buffer
-pub one_answer : (a b : Answer) → told a ≡ told b → a ≡ b
-one_answer a b e =
-    let reply : a.reply ≡ b.reply = reply_one a.reply b.reply (ap (λ (t : Told). t.number) e) in
-    λ i. record { chip = (e i).chip; value = (e i).value; reply = reply i }
+pub one_answer : (a b : Answer Chip) → told a ≡ told b → a ≡ b
+one_answer a b e = answers.one_answer a b e

@@ -2,10 +2,11 @@
 ghost use Rattle.std.specs.Prelude.{◌≡◌, get_or, length, set};
 ghost use Rattle.chip.specs.Told.{told};
 ghost use Rattle.chip.specs.Table.{send_by};
-ghost use Rattle.chip.specs.Chip.{after_ticks, done, external_events, fresh, hard_reset, inside, node_ticks, read, read_at, read_counter, replied, sample_now, send, send_into, sent_buffer, soft_reset, take_sample, timestamp_ticks, trigger, trigger_by, fate_of, with_bank, with_choice, with_control, with_sources, with_stamp, with_switches, write, write_at};
+ghost use Rattle.chip.specs.Chip.{after_ticks, external_events, fresh, hard_reset, inside, node_ticks, read, read_at, read_counter, sample_now, send, send_into, sent_buffer, soft_reset, take_sample, timestamp_ticks, trigger, trigger_by, fate_of, with_bank, with_choice, with_control, with_sources, with_stamp, with_switches, write, write_at};
 
 use super::line::Line;
 use super::place::{Place, find};
+use control::answer::Answer;
 use control::control::{Control, TWO_16, header_of};
 use control::reply::Reply;
 use counters::bank::Bank;
@@ -34,14 +35,6 @@ pub struct Chip {
     pub switches: Switches,
 }
 
-// An answer: the next chip, the value and the reply.
-#[derive(Clone, Copy, PartialEq, Eq)]
-pub struct Answer {
-    pub chip: Chip,
-    pub value: u64,
-    pub reply: Reply,
-}
-
 impl Chip {
     // Every part zero, but write wait set, and the slow clock at a tenth of the Timestamp's.
     pub fn fresh() -> Chip
@@ -65,10 +58,10 @@ impl Chip {
     }
 
     // A fresh chip, whose slow clock has the speed that is chosen.
-    pub fn hardware_reset(self, hundredth: bool) -> Answer
+    pub fn hardware_reset(self, hundredth: bool) -> Answer<Chip>
         ensures { told result ≡ hard_reset hundredth self }
     {
-        Chip::fresh_with(0, hundredth).done(0)
+        Answer::done(Chip::fresh_with(0, hundredth), 0)
     }
 
     // Whether the record is inside the bounds of reply 15.
@@ -80,86 +73,64 @@ impl Chip {
         }
         self.queue.inside(Edition::First) & (self.stamp < TWO_56)
     }
-
-    // Done, with a value.
-    fn done(self, value: u64) -> Answer
-        ensures { told result ≡ done value self }
-    {
-        Answer {
-            chip: self,
-            value,
-            reply: Reply::Done,
-        }
-    }
-
-    // This chip, with another reply.
-    fn replied(self, reply: Reply) -> Answer
-        ensures { told result ≡ replied reply self }
-    {
-        Answer {
-            chip: self,
-            value: reply.value(),
-            reply,
-        }
-    }
 }
 
 impl Chip {
     #[tactic(auto, unfolding(crate::specs::Chip::write))]
-    pub fn write(self, address: u64, bits: u64, lines: u8) -> Answer
+    pub fn write(self, address: u64, bits: u64, lines: u8) -> Answer<Chip>
         ensures { told result ≡ write address bits lines self }
     {
         if self.inside() {
             return self.write_at(find(address), bits, lines);
         }
-        self.replied(Reply::Outside)
+        Answer::replied(self, Reply::Outside)
     }
 
     #[tactic(auto, unfolding(crate::specs::Chip::read))]
-    pub fn read(self, address: u64) -> Answer
+    pub fn read(self, address: u64) -> Answer<Chip>
         ensures { told result ≡ read address self }
     {
         if self.inside() {
             return self.read_at(find(address));
         }
-        self.replied(Reply::Outside)
+        Answer::replied(self, Reply::Outside)
     }
 
     #[tactic(auto, unfolding(crate::specs::Chip::timestamp_ticks))]
-    pub fn timestamp_ticks(self, count: u32) -> Answer
+    pub fn timestamp_ticks(self, count: u32) -> Answer<Chip>
         ensures { told result ≡ timestamp_ticks count self }
     {
         if self.inside() {
-            return self.after_ticks(count).done(0);
+            return Answer::done(self.after_ticks(count), 0);
         }
-        self.replied(Reply::Outside)
+        Answer::replied(self, Reply::Outside)
     }
 
     #[tactic(auto, unfolding(crate::specs::Chip::node_ticks))]
-    pub fn node_ticks(mut self, count: u32) -> Answer
+    pub fn node_ticks(mut self, count: u32) -> Answer<Chip>
         ensures { told result ≡ node_ticks count self }
     {
         if self.inside() {
             self.bank = self.bank.ticked(self.switches, Kind::Node, count);
-            return self.done(0);
+            return Answer::done(self, 0);
         }
-        self.replied(Reply::Outside)
+        Answer::replied(self, Reply::Outside)
     }
 
     #[tactic(auto, unfolding(crate::specs::Chip::external_events))]
-    pub fn external_events(mut self, mask: u16) -> Answer
+    pub fn external_events(mut self, mask: u16) -> Answer<Chip>
         ensures { told result ≡ external_events mask self }
     {
         if self.inside() {
             self.bank = self.bank.signalled(self.switches, mask);
-            return self.done(0);
+            return Answer::done(self, 0);
         }
-        self.replied(Reply::Outside)
+        Answer::replied(self, Reply::Outside)
     }
 
     // The next word, if there is one.
     #[tactic(auto, using(crate::proofs::TableLaws::send_by_lem))]
-    pub fn send(self) -> Answer
+    pub fn send(self) -> Answer<Chip>
         ensures { told result ≡ send self }
     {
         let table = parities();
@@ -169,83 +140,84 @@ impl Chip {
     // The same with the parity bits of a lent table, for whoever sends one word after another: `words::parity::parities` gives it. By
     // another table bit 8 is that table's.
     #[tactic(auto, unfolding(crate::specs::Table::send_by))]
-    pub fn send_by(mut self, table: &[u8]) -> Answer
+    pub fn send_by(mut self, table: &[u8]) -> Answer<Chip>
         ensures { told result ≡ send_by table.now self }
     {
         if self.inside() {
             if self.queue.is_empty() {
-                return self.replied(Reply::NoWord);
+                return Answer::replied(self, Reply::NoWord);
             }
             let sent = self.queue.send_by(table, Edition::First, self.bank.shadows);
             self.queue = sent.queue;
-            return self.done(sent.word as u64);
+            return Answer::done(self, sent.word as u64);
         }
-        self.replied(Reply::Outside)
+        Answer::replied(self, Reply::Outside)
     }
 
     // As many words as the buffer has places or as are left.
     #[tactic(auto, unfolding(crate::specs::Chip::send_into, crate::specs::Chip::sent_buffer))]
-    pub fn send_into(mut self, out: &mut [u16]) -> Answer
+    pub fn send_into(mut self, out: &mut [u16]) -> Answer<Chip>
         ensures result_value { told result ≡ send_into (length out.old) self }
         ensures out_after { out.new ≡ sent_buffer self out.old }
     {
         if self.inside() {
             let sent = self.queue.send_into(Edition::First, self.bank.shadows, out);
             self.queue = sent.queue;
-            return self.done(sent.count);
+            return Answer::done(self, sent.count);
         }
-        self.replied(Reply::Outside)
+        Answer::replied(self, Reply::Outside)
     }
 }
 
 impl Chip {
     // A write, by what stands at the address.
     #[tactic(auto, unfolding(crate::specs::Chip::write_at))]
-    fn write_at(self, place: Place, bits: u64, lines: u8) -> Answer
+    fn write_at(self, place: Place, bits: u64, lines: u8) -> Answer<Chip>
         ensures { told result ≡ write_at place bits lines self }
     {
         match place {
-            Place::Beyond => self.replied(Reply::TooHigh),
-            Place::Nowhere => self.replied(Reply::Nothing),
-            Place::Reset => self.soft_reset().done(0),
-            Place::Csr => self.controlled(self.control.configured(bits)).done(0),
-            Place::Timestamp => self.replied(Reply::Forbidden),
-            Place::Filter => self.controlled(self.control.filtering(bits)).done(0),
-            Place::Waits => self.controlled(self.control.waits_cleared()).done(0),
-            Place::Overruns => self.controlled(self.control.overruns_cleared()).done(0),
-            Place::Mux => self.switched(self.switches.selecting(bits)).done(0),
-            Place::Clear => self
-                .banked(self.bank.cleared((bits % TWO_16) as u16))
-                .done(0),
-            Place::Enable => self.switched(self.switches.enabling(bits)).done(0),
-            Place::Disable => self.switched(self.switches.disabling(bits)).done(0),
-            Place::Source(i) => self.sourced(i, (bits % TWO_32) as u32).done(0),
-            Place::Counter(i) => self.banked(self.bank.fired(self.switches, i)).done(0),
+            Place::Beyond => Answer::replied(self, Reply::TooHigh),
+            Place::Nowhere => Answer::replied(self, Reply::Nothing),
+            Place::Reset => Answer::done(self.soft_reset(), 0),
+            Place::Csr => Answer::done(self.controlled(self.control.configured(bits)), 0),
+            Place::Timestamp => Answer::replied(self, Reply::Forbidden),
+            Place::Filter => Answer::done(self.controlled(self.control.filtering(bits)), 0),
+            Place::Waits => Answer::done(self.controlled(self.control.waits_cleared()), 0),
+            Place::Overruns => Answer::done(self.controlled(self.control.overruns_cleared()), 0),
+            Place::Mux => Answer::done(self.switched(self.switches.selecting(bits)), 0),
+            Place::Clear => Answer::done(self.banked(self.bank.cleared((bits % TWO_16) as u16)), 0),
+            Place::Enable => Answer::done(self.switched(self.switches.enabling(bits)), 0),
+            Place::Disable => Answer::done(self.switched(self.switches.disabling(bits)), 0),
+            Place::Source(i) => Answer::done(self.sourced(i, (bits % TWO_32) as u32), 0),
+            Place::Counter(i) => Answer::done(self.banked(self.bank.fired(self.switches, i)), 0),
             Place::Trigger(resource, level) => self.trigger(resource, level, bits, lines),
         }
     }
 
     // A read, by what stands at the address.
     #[tactic(auto, unfolding(crate::specs::Chip::read_at))]
-    fn read_at(self, place: Place) -> Answer
+    fn read_at(self, place: Place) -> Answer<Chip>
         ensures { told result ≡ read_at place self }
     {
         match place {
-            Place::Beyond => self.replied(Reply::TooHigh),
-            Place::Nowhere => self.replied(Reply::Nothing),
-            Place::Reset => self.replied(Reply::Forbidden),
-            Place::Csr => self.done(self.control.csr(self.queue.full(), self.queue.busy())),
-            Place::Timestamp => self.done(self.stamp),
-            Place::Filter => self.done(self.control.filter as u64),
-            Place::Waits => self.done(self.control.wait as u64),
-            Place::Overruns => self.done(self.control.overrun as u64),
-            Place::Mux => self.done(self.switches.selection()),
-            Place::Clear => self.replied(Reply::Forbidden),
-            Place::Enable => self.done(self.switches.enabled as u64),
-            Place::Disable => self.replied(Reply::Forbidden),
-            Place::Source(i) => self.done(self.source(i) as u64),
+            Place::Beyond => Answer::replied(self, Reply::TooHigh),
+            Place::Nowhere => Answer::replied(self, Reply::Nothing),
+            Place::Reset => Answer::replied(self, Reply::Forbidden),
+            Place::Csr => Answer::done(
+                self,
+                self.control.csr(self.queue.full(), self.queue.busy()),
+            ),
+            Place::Timestamp => Answer::done(self, self.stamp),
+            Place::Filter => Answer::done(self, self.control.filter as u64),
+            Place::Waits => Answer::done(self, self.control.wait as u64),
+            Place::Overruns => Answer::done(self, self.control.overrun as u64),
+            Place::Mux => Answer::done(self, self.switches.selection()),
+            Place::Clear => Answer::replied(self, Reply::Forbidden),
+            Place::Enable => Answer::done(self, self.switches.enabled as u64),
+            Place::Disable => Answer::replied(self, Reply::Forbidden),
+            Place::Source(i) => Answer::done(self, self.source(i) as u64),
             Place::Counter(i) => self.read_counter(i),
-            Place::Trigger(_, _) => self.replied(Reply::Forbidden),
+            Place::Trigger(_, _) => Answer::replied(self, Reply::Forbidden),
         }
     }
 
@@ -292,17 +264,19 @@ impl Chip {
 
     // A counter through the shadows, or a wait, or no data.
     #[tactic(auto, unfolding(crate::specs::Chip::read_counter))]
-    fn read_counter(self, index: usize) -> Answer
+    fn read_counter(self, index: usize) -> Answer<Chip>
         ensures { told result ≡ read_counter index self }
     {
         if self.queue.busy() {
             if self.control.readwait {
-                return self.controlled(self.control.waited()).replied(Reply::Wait);
+                return Answer::replied(self.controlled(self.control.waited()), Reply::Wait);
             }
-            return self.replied(Reply::Busy);
+            return Answer::replied(self, Reply::Busy);
         }
-        self.banked(self.bank.copied())
-            .done(self.bank.value(index) as u64)
+        Answer::done(
+            self.banked(self.bank.copied()),
+            self.bank.value(index) as u64,
+        )
     }
 
     // The Timestamp, the slow clock and the counters after some ticks.
@@ -320,39 +294,37 @@ impl Chip {
 impl Chip {
     // A trigger, by its line, the settings, the Filter and the room.
     #[tactic(auto, unfolding(crate::specs::Chip::trigger))]
-    fn trigger(self, resource: bool, level: usize, bits: u64, lines: u8) -> Answer
+    fn trigger(self, resource: bool, level: usize, bits: u64, lines: u8) -> Answer<Chip>
         ensures { told result ≡ trigger resource level bits lines self }
     {
         match Line::of(lines) {
             Some(line) => self.trigger_line(resource, level, bits, line),
-            None => self.replied(Reply::Lines),
+            None => Answer::replied(self, Reply::Lines),
         }
     }
 
     // The same, of a trigger with one active line. One test after the other: by a match over the control's `fate`, as the MultiKron II has it,
     // the compiler copies the whole record at every operation (docs/PERFORMANCE.md).
     #[tactic(auto, unfolding(crate::specs::Chip::trigger_by))]
-    fn trigger_line(self, resource: bool, level: usize, bits: u64, line: Line) -> Answer
+    fn trigger_line(self, resource: bool, level: usize, bits: u64, line: Line) -> Answer<Chip>
         ensures { told result ≡ trigger_by (fate_of resource level self) resource line.number bits self }
     {
         let control = self.control;
         if !control.sampling {
-            return self.replied(Reply::Off);
+            return Answer::replied(self, Reply::Off);
         }
         if !control.passes(level) {
-            return self.replied(Reply::Filtered);
+            return Answer::replied(self, Reply::Filtered);
         }
         let full = self.queue.full();
         let blocked = self.queue.blocked(resource);
         if full | blocked {
             if control.writewait {
-                return self.controlled(control.waited()).replied(Reply::Wait);
+                return Answer::replied(self.controlled(control.waited()), Reply::Wait);
             }
-            return self
-                .controlled(control.overran(full, blocked))
-                .replied(Reply::Lost);
+            return Answer::replied(self.controlled(control.overran(full, blocked)), Reply::Lost);
         }
-        self.take(resource, line, bits).done(0)
+        Answer::done(self.take(resource, line, bits), 0)
     }
 
     // A sample is taken as the record stands.

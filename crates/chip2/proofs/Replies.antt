@@ -11,7 +11,7 @@ use borrow.Author.Tests.{lt-ltb, lt-leb, ne_eqb, ltb-true, ltb-false}
 use Rattle.queue.specs.Queue.{busy}
 use Rattle.control.specs.Fate.{fate}
 use Rattle.control.specs.declared.reply.Reply.TheVariants.{Lines, NoWord, Wait, Busy, Outside}
-use Rattle.control.proofs.ReplyLaws.{reply_one}
+use Rattle.control.proofs.ReplyLaws as answers
 use Rattle.chip.specs.Chip.{lacks_room, line_of, one_line}
 use Rattle.chip.specs.Rows.{one_active, read_only, triggering}
 use Rattle.chip.proofs.AddressLaws.{or_rest, same, same_eq, up_to_at}
@@ -22,7 +22,7 @@ use Rattle.chip2.specs.Operation.{Operation, op_reset, op_write, op_read, op_tic
 use Rattle.chip2.specs.Place.{place_of, register_of}
 use Rattle.chip2.specs.Rows.{counter_at, lacking, mapped, passes, row0, row1, row2, row3, row4, row5, row6, row7, row8, row10, row11, row15, trigger_case, vacant, write_only}
 use Rattle.chip2.specs.Told.{Told, told}
-use Rattle.chip2.specs.declared.chip2.Answer.{Answer}
+use Rattle.control.specs.declared.answer.Answer.{Answer}
 use Rattle.chip2.specs.declared.chip2.Chip2.{Chip2}
 use Rattle.chip2.specs.declared.place.Place.{Place}
 use Rattle.chip2.specs.declared.place.Place.TheVariants.{Trigger}
@@ -216,7 +216,5 @@ module _ (op : Operation) (c : Chip2) where
 
 -- an operation's promise, `told r` equal to a definition, leaves one answer, since replies of one number are one reply; a lent buffer's is
 -- an equation with the whole buffer
-pub one_answer : (a b : Answer) → told a ≡ told b → a ≡ b
-one_answer a b e =
-    let reply : a.reply ≡ b.reply = reply_one a.reply b.reply (ap (λ (t : Told). t.number) e) in
-    λ i. record { chip = (e i).chip; value = (e i).value; reply = reply i }
+pub one_answer : (a b : Answer Chip2) → told a ≡ told b → a ≡ b
+one_answer a b e = answers.one_answer a b e

@@ -1,19 +1,17 @@
 -- Document 01, "The chip's operations": "Each operation is given the whole record and hands back the next one, with a reply number and a
 -- 64-bit value". What an answer of the MultiKron II tells, by its reply's number.
-use Rattle.std.specs.Prelude.{ℕ}
-use Rattle.control.specs.Reply.{Row, reply_number}
-use Rattle.chip2.specs.declared.chip2.Answer.{Answer}
+use Rattle.control.specs.Reply.{Row}
+use Rattle.control.specs.Told as answer
+use Rattle.control.specs.declared.answer.Answer.{Answer}
 use Rattle.chip2.specs.declared.chip2.Chip2.{Chip2}
 
 -- "the next one, with a reply number and a 64-bit value"
-pub record Told : Type 0 where
-  pub chip : Chip2
-  pub number : ℕ
-  pub value : ℕ
+abbrev pub Told : Type 0
+Told = answer.Told Chip2
 
 -- what an answer tells, and what a row tells of a record
-abbrev pub told : Answer → Told
-told a = record { chip = a.chip; number = reply_number a.reply; value = a.value }
+abbrev pub told : Answer Chip2 → Told
+told a = answer.told a
 
 abbrev pub told_row : Row → Chip2 → Told
-told_row row c = record { chip = c; number = row.number; value = row.value }
+told_row row c = answer.told_row row c

@@ -3,10 +3,11 @@ ghost use Rattle.std.specs.Prelude.{◌≡◌, false, ◌<◌, ◌^◌, get_or, 
 ghost use Rattle.chip2.specs.Place.{resets};
 ghost use Rattle.chip2.specs.Told.{told};
 ghost use Rattle.chip2.specs.Table.{send_by};
-ghost use Rattle.chip2.specs.Chip2.{after_nodes, after_ticks, configured_all, data_of, done, enabled_all, external_events, fate_of, fresh, given, hard_reset, inside, node_ticks, read, read_at, read_counter, replied, sample_now, send, send_into, sent_buffer, status_of, take_sample, timestamp_ticks, trigger, trigger_by, with_bank, with_control, with_fields, with_high, with_sources, with_stamp, write, write_at};
+ghost use Rattle.chip2.specs.Chip2.{after_nodes, after_ticks, configured_all, data_of, enabled_all, external_events, fate_of, fresh, given, hard_reset, inside, node_ticks, read, read_at, read_counter, sample_now, send, send_into, sent_buffer, status_of, take_sample, timestamp_ticks, trigger, trigger_by, with_bank, with_control, with_fields, with_high, with_sources, with_stamp, write, write_at};
 
 use super::place::{Place, find};
 use chip::line::Line;
+use control::answer::Answer;
 use control::control::{Control, header_of, pair};
 use control::fate::Fate;
 use control::reply::Reply;
@@ -44,14 +45,6 @@ pub struct Chip2 {
     pub phase: u8,
 }
 
-// An answer: the next chip, the value and the reply.
-#[derive(Clone, Copy, PartialEq, Eq)]
-pub struct Answer {
-    pub chip: Chip2,
-    pub value: u64,
-    pub reply: Reply,
-}
-
 impl Chip2 {
     // Every part zero, but write wait set and the fields at their defaults.
     pub fn fresh() -> Chip2
@@ -78,10 +71,10 @@ impl Chip2 {
     }
 
     // A fresh chip.
-    pub fn hardware_reset(self) -> Answer
+    pub fn hardware_reset(self) -> Answer<Chip2>
         ensures { told result ≡ hard_reset self }
     {
-        Chip2::fresh_with(0).done(0)
+        Answer::done(Chip2::fresh_with(0), 0)
     }
 
     // Whether the record is inside the bounds of reply 15.
@@ -91,34 +84,12 @@ impl Chip2 {
         self.queue.inside(Edition::Second) & ((self.phase < 100) & (self.stamp < TWO_56))
     }
 
-    // Done, with a value.
-    fn done(self, value: u64) -> Answer
-        ensures { told result ≡ done value self }
-    {
-        Answer {
-            chip: self,
-            value,
-            reply: Reply::Done,
-        }
-    }
-
     // Done, with a value that is read: its upper half goes into the High Order register.
-    fn given(mut self, value: u64) -> Answer
+    fn given(mut self, value: u64) -> Answer<Chip2>
         ensures { told result ≡ given value self }
     {
         self.high = (value / TWO_32) as u32;
-        self.done(value)
-    }
-
-    // This chip, with another reply.
-    fn replied(self, reply: Reply) -> Answer
-        ensures { told result ≡ replied reply self }
-    {
-        Answer {
-            chip: self,
-            value: reply.value(),
-            reply,
-        }
+        Answer::done(self, value)
     }
 
     // The data of a write: in 32-bit mode the upper half comes from the High Order register.
@@ -134,65 +105,65 @@ impl Chip2 {
 
 impl Chip2 {
     #[tactic(auto, unfolding(crate::specs::Chip2::write))]
-    pub fn write(self, address: u64, bits: u64, lines: u8) -> Answer
+    pub fn write(self, address: u64, bits: u64, lines: u8) -> Answer<Chip2>
         ensures { told result ≡ write address bits lines self }
     {
         if self.inside() {
             // A reset by itself: as one arm among the writes it makes the compiler move the whole record at each of them.
             if address == 0 {
-                return Chip2::fresh_with(self.stamp).done(0);
+                return Answer::done(Chip2::fresh_with(self.stamp), 0);
             }
             return self.write_at(find(address), self.data_of(bits), lines);
         }
-        self.replied(Reply::Outside)
+        Answer::replied(self, Reply::Outside)
     }
 
     #[tactic(auto, unfolding(crate::specs::Chip2::read))]
-    pub fn read(self, address: u64) -> Answer
+    pub fn read(self, address: u64) -> Answer<Chip2>
         ensures { told result ≡ read address self }
     {
         if self.inside() {
             return self.read_at(find(address));
         }
-        self.replied(Reply::Outside)
+        Answer::replied(self, Reply::Outside)
     }
 
     // Ticks of the Timestamp's clock, with the external lines that are high during all of them.
     #[tactic(auto, unfolding(crate::specs::Chip2::timestamp_ticks))]
-    pub fn timestamp_ticks(self, count: u32, levels: u16) -> Answer
+    pub fn timestamp_ticks(self, count: u32, levels: u16) -> Answer<Chip2>
         ensures { told result ≡ timestamp_ticks count levels self }
     {
         if self.inside() {
-            return self.after_ticks(count, levels).done(0);
+            return Answer::done(self.after_ticks(count, levels), 0);
         }
-        self.replied(Reply::Outside)
+        Answer::replied(self, Reply::Outside)
     }
 
     // Ticks of the node's clock, likewise.
     #[tactic(auto, unfolding(crate::specs::Chip2::node_ticks))]
-    pub fn node_ticks(self, count: u32, levels: u16) -> Answer
+    pub fn node_ticks(self, count: u32, levels: u16) -> Answer<Chip2>
         ensures { told result ≡ node_ticks count levels self }
     {
         if self.inside() {
-            return self.after_nodes(count, levels).done(0);
+            return Answer::done(self.after_nodes(count, levels), 0);
         }
-        self.replied(Reply::Outside)
+        Answer::replied(self, Reply::Outside)
     }
 
     #[tactic(auto, unfolding(crate::specs::Chip2::external_events))]
-    pub fn external_events(mut self, mask: u16) -> Answer
+    pub fn external_events(mut self, mask: u16) -> Answer<Chip2>
         ensures { told result ≡ external_events mask self }
     {
         if self.inside() {
             self.bank = signalled(self.bank, self.fields, mask);
-            return self.done(0);
+            return Answer::done(self, 0);
         }
-        self.replied(Reply::Outside)
+        Answer::replied(self, Reply::Outside)
     }
 
     // The next word, if there is one.
     #[tactic(auto, using(crate::proofs::TableLaws::send_by_lem))]
-    pub fn send(self) -> Answer
+    pub fn send(self) -> Answer<Chip2>
         ensures { told result ≡ send self }
     {
         let table = parities();
@@ -202,25 +173,25 @@ impl Chip2 {
     // The same with the parity bits of a lent table, for whoever sends one word after another: `words::parity::parities` gives it. By
     // another table bit 8 is that table's.
     #[tactic(auto, unfolding(crate::specs::Table::send_by))]
-    pub fn send_by(mut self, table: &[u8]) -> Answer
+    pub fn send_by(mut self, table: &[u8]) -> Answer<Chip2>
         ensures { told result ≡ send_by table.now self }
     {
         if self.inside() {
             if self.queue.is_empty() {
-                return self.replied(Reply::NoWord);
+                return Answer::replied(self, Reply::NoWord);
             }
             let sent = self
                 .queue
                 .send_by(table, Edition::Second, self.bank.shadows);
             self.queue = sent.queue;
-            return self.done(sent.word as u64);
+            return Answer::done(self, sent.word as u64);
         }
-        self.replied(Reply::Outside)
+        Answer::replied(self, Reply::Outside)
     }
 
     // As many words as the buffer has places or as are left.
     #[tactic(auto, unfolding(crate::specs::Chip2::send_into, crate::specs::Chip2::sent_buffer))]
-    pub fn send_into(mut self, out: &mut [u16]) -> Answer
+    pub fn send_into(mut self, out: &mut [u16]) -> Answer<Chip2>
         ensures result_value { told result ≡ send_into (length out.old) self }
         ensures out_after { out.new ≡ sent_buffer self out.old }
     {
@@ -229,64 +200,65 @@ impl Chip2 {
                 .queue
                 .send_into(Edition::Second, self.bank.shadows, out);
             self.queue = sent.queue;
-            return self.done(sent.count);
+            return Answer::done(self, sent.count);
         }
-        self.replied(Reply::Outside)
+        Answer::replied(self, Reply::Outside)
     }
 }
 
 impl Chip2 {
     // A write but a reset, by what stands at the address.
     #[tactic(auto, unfolding(crate::specs::Chip2::write_at))]
-    fn write_at(self, place: Place, bits: u64, lines: u8) -> Answer
+    fn write_at(self, place: Place, bits: u64, lines: u8) -> Answer<Chip2>
         requires { resets place ≡ false }
         ensures { told result ≡ write_at place bits lines self }
     {
         match place {
-            Place::Beyond => self.replied(Reply::TooHigh),
-            Place::Nowhere => self.replied(Reply::Nothing),
-            Place::Reset => self.done(0),
-            Place::Csr => self.configured(bits).done(0),
-            Place::Timestamp => self.replied(Reply::Forbidden),
-            Place::Filter => self.controlled(self.control.filtering(bits)).done(0),
-            Place::Waits => self.controlled(self.control.waits_cleared()).done(0),
-            Place::Overruns => self.controlled(self.control.overruns_cleared()).done(0),
-            Place::HighOrder => self.raised((bits % TWO_32) as u32).done(0),
-            Place::Enable => self.enabled(bits).done(0),
-            Place::Mode => self.fielded(self.fields.moding(bits)).done(0),
-            Place::Select => self.fielded(self.fields.clocking(bits)).done(0),
-            Place::Source(i) => self.sourced(i, (bits % TWO_32) as u32).done(0),
-            Place::Counter(i) => self
-                .banked(loaded(self.bank, i, (bits % TWO_32) as u32))
-                .done(0),
-            Place::Shadow(i) => self.banked(fired(self.bank, self.fields, i)).done(0),
+            Place::Beyond => Answer::replied(self, Reply::TooHigh),
+            Place::Nowhere => Answer::replied(self, Reply::Nothing),
+            Place::Reset => Answer::done(self, 0),
+            Place::Csr => Answer::done(self.configured(bits), 0),
+            Place::Timestamp => Answer::replied(self, Reply::Forbidden),
+            Place::Filter => Answer::done(self.controlled(self.control.filtering(bits)), 0),
+            Place::Waits => Answer::done(self.controlled(self.control.waits_cleared()), 0),
+            Place::Overruns => Answer::done(self.controlled(self.control.overruns_cleared()), 0),
+            Place::HighOrder => Answer::done(self.raised((bits % TWO_32) as u32), 0),
+            Place::Enable => Answer::done(self.enabled(bits), 0),
+            Place::Mode => Answer::done(self.fielded(self.fields.moding(bits)), 0),
+            Place::Select => Answer::done(self.fielded(self.fields.clocking(bits)), 0),
+            Place::Source(i) => Answer::done(self.sourced(i, (bits % TWO_32) as u32), 0),
+            Place::Counter(i) => Answer::done(
+                self.banked(loaded(self.bank, i, (bits % TWO_32) as u32)),
+                0,
+            ),
+            Place::Shadow(i) => Answer::done(self.banked(fired(self.bank, self.fields, i)), 0),
             Place::Trigger(resource, level) => self.trigger(resource, level, bits, lines),
         }
     }
 
     // A read, by what stands at the address.
     #[tactic(auto, unfolding(crate::specs::Chip2::read_at))]
-    fn read_at(self, place: Place) -> Answer
+    fn read_at(self, place: Place) -> Answer<Chip2>
         requires { self.stamp < 2 ^ 56 }
         ensures { told result ≡ read_at place self }
     {
         match place {
-            Place::Beyond => self.replied(Reply::TooHigh),
-            Place::Nowhere => self.replied(Reply::Nothing),
-            Place::Reset => self.replied(Reply::Forbidden),
+            Place::Beyond => Answer::replied(self, Reply::TooHigh),
+            Place::Nowhere => Answer::replied(self, Reply::Nothing),
+            Place::Reset => Answer::replied(self, Reply::Forbidden),
             Place::Csr => self.given(self.status()),
             Place::Timestamp => self.given(self.stamp + ABOVE_56),
             Place::Filter => self.given(self.control.filter as u64 + ABOVE_16),
             Place::Waits => self.given(self.control.wait as u64 + ABOVE_32),
             Place::Overruns => self.given(self.control.overrun as u64 + ABOVE_32),
-            Place::HighOrder => self.done(self.high as u64 + ABOVE_32),
+            Place::HighOrder => Answer::done(self, self.high as u64 + ABOVE_32),
             Place::Enable => self.given(self.fields.enable),
             Place::Mode => self.given(self.fields.mode),
             Place::Select => self.given(self.fields.select),
             Place::Source(i) => self.given(self.source(i) as u64 + ABOVE_32),
             Place::Counter(i) => self.read_counter(i),
             Place::Shadow(i) => self.given(self.shadow(i) as u64 + ABOVE_32),
-            Place::Trigger(_, _) => self.replied(Reply::Forbidden),
+            Place::Trigger(_, _) => Answer::replied(self, Reply::Forbidden),
         }
     }
 
@@ -369,14 +341,14 @@ impl Chip2 {
 
     // A counter through the shadows, or a wait, or no data.
     #[tactic(auto, unfolding(crate::specs::Chip2::read_counter))]
-    fn read_counter(self, index: usize) -> Answer
+    fn read_counter(self, index: usize) -> Answer<Chip2>
         ensures { told result ≡ read_counter index self }
     {
         if self.queue.busy() {
             if self.control.readwait {
-                return self.controlled(self.control.waited()).replied(Reply::Wait);
+                return Answer::replied(self.controlled(self.control.waited()), Reply::Wait);
             }
-            return self.replied(Reply::Busy);
+            return Answer::replied(self, Reply::Busy);
         }
         self.banked(self.bank.copied())
             .given(self.bank.value(index) as u64 + ABOVE_32)
@@ -409,30 +381,31 @@ impl Chip2 {
 impl Chip2 {
     // A trigger, by its line, the settings, the Filter and the room.
     #[tactic(auto, unfolding(crate::specs::Chip2::trigger))]
-    fn trigger(self, resource: bool, level: usize, bits: u64, lines: u8) -> Answer
+    fn trigger(self, resource: bool, level: usize, bits: u64, lines: u8) -> Answer<Chip2>
         ensures { told result ≡ trigger resource level bits lines self }
     {
         match Line::of(lines) {
             Some(line) => self.trigger_line(resource, level, bits, line),
-            None => self.replied(Reply::Lines),
+            None => Answer::replied(self, Reply::Lines),
         }
     }
 
     // The same, of a trigger with one active line.
     #[tactic(auto, unfolding(crate::specs::Chip2::trigger_by))]
-    fn trigger_line(self, resource: bool, level: usize, bits: u64, line: Line) -> Answer
+    fn trigger_line(self, resource: bool, level: usize, bits: u64, line: Line) -> Answer<Chip2>
         ensures { told result ≡ trigger_by (fate_of resource level self) resource line.number bits self }
     {
         let full = self.queue.full();
         let blocked = self.queue.blocked(resource);
         match self.control.fate(level, full, blocked) {
-            Fate::Off => self.replied(Reply::Off),
-            Fate::Filtered => self.replied(Reply::Filtered),
-            Fate::Wait => self.controlled(self.control.waited()).replied(Reply::Wait),
-            Fate::Lost => self
-                .controlled(self.control.overran(full, blocked))
-                .replied(Reply::Lost),
-            Fate::Taken => self.take(resource, line, bits).done(0),
+            Fate::Off => Answer::replied(self, Reply::Off),
+            Fate::Filtered => Answer::replied(self, Reply::Filtered),
+            Fate::Wait => Answer::replied(self.controlled(self.control.waited()), Reply::Wait),
+            Fate::Lost => Answer::replied(
+                self.controlled(self.control.overran(full, blocked)),
+                Reply::Lost,
+            ),
+            Fate::Taken => Answer::done(self.take(resource, line, bits), 0),
         }
     }
 

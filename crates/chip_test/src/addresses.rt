@@ -1,6 +1,7 @@
 // Every address and every set of processor lines, each tried on the same record; equal answers are one line, `read 128..255: 1 0 same`.
 use super::steps::tell;
-use chip::chip::{Answer, Chip};
+use chip::chip::Chip;
+use control::answer::Answer;
 use control::reply::Reply;
 use printing::print;
 use std::ops::Range;
@@ -22,7 +23,12 @@ struct Span {
 }
 
 // The answers at the addresses or lines of a range.
-pub fn sweep<F: Fn(Chip, u64) -> Answer>(name: &[u8], chip: Chip, range: Range<u64>, answer_at: F)
+pub fn sweep<F: Fn(Chip, u64) -> Answer<Chip>>(
+    name: &[u8],
+    chip: Chip,
+    range: Range<u64>,
+    answer_at: F,
+)
     requires { F.IsAlwaysCallable answer_at }
 {
     let mut span = None;
@@ -32,7 +38,7 @@ pub fn sweep<F: Fn(Chip, u64) -> Answer>(name: &[u8], chip: Chip, range: Range<u
     print(name, span);
 }
 
-fn outcome_of(chip: Chip, answer: Answer) -> Outcome {
+fn outcome_of(chip: Chip, answer: Answer<Chip>) -> Outcome {
     Outcome {
         reply: answer.reply,
         value: answer.value,

@@ -1,5 +1,6 @@
 // The chip's operations, each with a line of what was asked, the reply, the value, and whether the record is the same.
-use chip::chip::{Answer, Chip};
+use chip::chip::Chip;
+use control::answer::Answer;
 use printing::print;
 
 // The mark that a buffer is filled with before it is lent.
@@ -15,14 +16,14 @@ pub fn tell(same: bool) {
 }
 
 // The reply, the value and the record: the next chip.
-fn told(before: Chip, answer: Answer) -> Chip {
+fn told(before: Chip, answer: Answer<Chip>) -> Chip {
     print::field(b": ", answer.reply.number());
     print::field(b" ", answer.value);
     tell(before == answer.chip);
     answer.chip
 }
 
-fn line(before: Chip, answer: Answer) -> Chip {
+fn line(before: Chip, answer: Answer<Chip>) -> Chip {
     let next = told(before, answer);
     print::text(b"\n");
     next
@@ -127,7 +128,7 @@ pub fn triggers(chip: Chip, address: u64, count: u64) -> Chip {
 }
 
 // A step some times, and a number of each answer; equal ones are a run.
-fn times<F: Fn(Chip) -> Answer, G: Fn(Answer) -> u64>(
+fn times<F: Fn(Chip) -> Answer<Chip>, G: Fn(Answer<Chip>) -> u64>(
     chip: Chip,
     count: u64,
     step: F,

@@ -1,3 +1,4 @@
 pub mod Control
 pub mod Fate
 pub mod Reply
+pub mod Told

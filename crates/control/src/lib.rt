@@ -2,6 +2,7 @@
 // header, the replies with their numbers, and a trigger's fate.
 #![tactic(auto)]
 
+pub mod answer;
 pub mod control;
 pub mod fate;
 pub mod reply;

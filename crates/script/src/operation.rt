@@ -5,7 +5,8 @@ ghost use Rattle.chip.specs.Told.{told};
 ghost use Rattle.script.specs.Record.{by_kind, fitting, operation_of, outcome_of, reset_by, run_of};
 ghost use Rattle.script.specs.Table.{run_by};
 
-use chip::chip::{Answer, Chip};
+use chip::chip::Chip;
+use control::answer::Answer;
 use words::parity::parities;
 
 const TWO_8: u64 = 1 << 8;
@@ -134,7 +135,7 @@ pub fn run_by(table: &[u8], chip: Chip, operation: Option<Operation>) -> Outcome
     }
 }
 
-fn numbered(answer: Answer) -> Outcome
+fn numbered(answer: Answer<Chip>) -> Outcome
     ensures { result ≡ outcome_of (told answer) }
 {
     Outcome {

@@ -1,7 +1,7 @@
 -- `script2::block::run_block` meets its contract: after i turns the chip and the text are those of the first i records (`Ran`), whichever
 -- kind each has, for the table that is lent is the table of parity bits, and a line has at most 6,042 bytes. Assumes nothing.
 use Rattle.script2.specs.Line.{words_line}
-use Rattle.chip2.specs.declared.chip2.Answer.{Answer}
+use Rattle.control.specs.declared.answer.Answer.{Answer}
 use Rattle.std.proofs.Common.{Option, None, Some}
 use Rattle.script2.specs.declared.operation.Operation.{Operation}
 use Prim.Native.Nat.{ℕ, ◌+◌, ◌-◌, ◌≤◌, min, ◌*◌}
@@ -57,14 +57,14 @@ pub loop-i-init : goal.loop-i-init
 loop-i-init c = (refl, ran_none second c.args.input.now c.args.out.now c.args.chip)
 
 -- what an operation leaves: its answer's step, the room for words, and the words that were sent
-record Stepped (o : Operation) (chip : Chip2) (a : Answer) (words : List ℕ) (n : ℕ) : Type 0 where
+record Stepped (o : Operation) (chip : Chip2) (a : Answer Chip2) (words : List ℕ) (n : ℕ) : Type 0 where
   step : told a ≡ step_of (Some o) chip
   room : length words ≡ 1000
   few : n ≤ 1000
   sent : take n words ≡ sent_words (Some o) chip
 
 -- one that sends no words into the buffer
-plain : {o p : Operation} {chip : Chip2} {a b : Answer} {words₀ words : List ℕ} {n : ℕ} → length words₀ ≡ 1000 → p ≡ o → told b ≡ step_of (Some o) chip → sent_words (Some o) chip ≡ [] → a ≡ b → words ≡ words₀ → n ≡ 0 → Stepped p chip a words n
+plain : {o p : Operation} {chip : Chip2} {a b : Answer Chip2} {words₀ words : List ℕ} {n : ℕ} → length words₀ ≡ 1000 → p ≡ o → told b ≡ step_of (Some o) chip → sent_words (Some o) chip ≡ [] → a ≡ b → words ≡ words₀ → n ≡ 0 → Stepped p chip a words n
 plain {o} {p} {chip} {a} {b} {words₀} {words} {n} room is step none e w z =
     record {
       step = ap told e ∙ step ∙ ap (λ (x : Operation). step_of (Some x) chip) (sym is);
