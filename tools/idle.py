@@ -139,7 +139,7 @@ VERSIONS = {
         ], ['control', 'chip', 'marked'], [('history', 'lost_control')]),
     'buffer_count_invented': (
         'a buffer send writes its words and returns the Timestamp for their number', [
-            ('crates/chip/src/chip.rt', 'return self.done(sent.count);', 'return self.done(self.stamp);'),
+            ('crates/chip/src/chip.rt', 'return Answer::done(self, sent.count);', 'return Answer::done(self, self.stamp);'),
             ('crates/chip/specs/Chip.antt', 'done s.count (with_queue s.queue c)', 'done c.stamp (with_queue s.queue c)'),
         ], [], [('chip', 'fill_answer')]),
     'same_word_again': (
