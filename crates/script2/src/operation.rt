@@ -3,12 +3,6 @@ ghost use Rattle.std.specs.Prelude.{◌≡◌, ◌+◌, ◌≤◌, ◌<◌, ◌^
 ghost use Rattle.words.specs.Bytes.{number};
 ghost use Rattle.script2.specs.Record.{by_kind, operation_of};
 
-const TWO_8: u64 = 1 << 8;
-
-const TWO_16: u64 = 1 << 16;
-
-const TWO_32: u64 = 1 << 32;
-
 // What a record asks for; a record that asks for nothing is reply 9.
 #[derive(Clone, Copy)]
 pub enum Operation {
@@ -29,12 +23,31 @@ pub enum Operation {
 pub fn decode(bytes: &[u8]) -> Option<Operation>
     ensures { result ≡ operation_of bytes.now }
 {
-    if bytes.len() != 16 {
+    let [
+        kind,
+        address,
+        lines,
+        zero,
+        low,
+        high,
+        sixth,
+        seventh,
+        a,
+        b,
+        c,
+        d,
+        e,
+        f,
+        g,
+        h,
+    ] = bytes
+    else {
         return None;
-    }
-    if (bytes[3] == 0) & ((bytes[6] == 0) & (bytes[7] == 0)) {
-        let levels = pair(bytes, 4) as u16;
-        return by_kind(bytes[0], bytes[1], bytes[2], levels, eight(bytes, 8));
+    };
+    if (*zero == 0) & ((*sixth == 0) & (*seventh == 0)) {
+        let levels = u16::from_le_bytes([*low, *high]);
+        let bits = u64::from_le_bytes([*a, *b, *c, *d, *e, *f, *g, *h]);
+        return by_kind(*kind, *address, *lines, levels, bits);
     }
     None
 }
@@ -53,35 +66,4 @@ fn by_kind(kind: u8, address: u8, lines: u8, levels: u16, bits: u64) -> Option<O
         7 if bits <= 1000 => Some(Operation::Fill(bits as usize)),
         _ => None,
     }
-}
-
-// The number of eight bytes, low first; of four; of two.
-fn eight(bytes: &[u8], at: usize) -> u64
-    requires { at + 8 ≤ length bytes.now }
-    ensures { result ≡ number (take 8 (drop at bytes.now)) }
-{
-    quad(bytes, at) + TWO_32 * quad(bytes, at + 4)
-}
-
-fn quad(bytes: &[u8], at: usize) -> u64
-    requires { at + 4 ≤ length bytes.now }
-    ensures value { result ≡ number (take 4 (drop at bytes.now)) }
-    ensures upper_bound { result < 2 ^ 32 }
-{
-    pair(bytes, at) + TWO_16 * pair(bytes, at + 2)
-}
-
-fn pair(bytes: &[u8], at: usize) -> u64
-    requires { at + 2 ≤ length bytes.now }
-    ensures value { result ≡ number (take 2 (drop at bytes.now)) }
-    ensures upper_bound { result < 2 ^ 16 }
-{
-    wide(bytes[at]) + TWO_8 * wide(bytes[at + 1])
-}
-
-fn wide(byte: u8) -> u64
-    ensures value { result ≡ byte }
-    ensures upper_bound { result < 256 }
-{
-    byte as u64
 }
