@@ -9,6 +9,14 @@ use chip::chip::Chip;
 use control::answer::Answer;
 use words::parity::parities;
 
+const TWO_8: u64 = 1 << 8;
+
+const TWO_16: u64 = 1 << 16;
+
+const TWO_24: u64 = 1 << 24;
+
+const TWO_32: u64 = 1 << 32;
+
 // What a record asks for.
 #[derive(Clone, Copy)]
 pub enum Operation {
@@ -35,14 +43,13 @@ pub struct Outcome {
 pub fn decode(bytes: &[u8]) -> Option<Operation>
     ensures { result ≡ operation_of bytes.now }
 {
-    let [kind, address, lines, zero, a, b, c, d, e, f, g, h] = bytes else {
-        return None;
-    };
-    if *zero != 0 {
+    if bytes.len() != 12 {
         return None;
     }
-    let bits = u64::from_le_bytes([*a, *b, *c, *d, *e, *f, *g, *h]);
-    by_kind(*kind, *address, *lines, bits)
+    if bytes[3] != 0 {
+        return None;
+    }
+    by_kind(bytes[0], bytes[1], bytes[2], bits_of(bytes))
 }
 
 fn by_kind(kind: u8, address: u8, lines: u8, bits: u64) -> Option<Operation>
@@ -68,6 +75,35 @@ fn reset(bits: u64) -> Option<Operation>
         1 => Some(Operation::Reset(true)),
         _ => None,
     }
+}
+
+// The data of a record: its last eight bytes, low first. By sums of four, which the compiler makes one load; by std's `from_le_bytes`, or by one
+// function of eight bytes, a record costs 10 to 20 instructions more (docs/PERFORMANCE.md).
+fn bits_of(bytes: &[u8]) -> u64
+    requires { length bytes.now ≡ 12 }
+    ensures { result ≡ number (drop 4 bytes.now) }
+{
+    quad(bytes, 4) + TWO_32 * quad(bytes, 8)
+}
+
+// The number of four bytes, low first.
+fn quad(bytes: &[u8], at: usize) -> u64
+    requires { at + 4 ≤ length bytes.now }
+    ensures value { result ≡ number (take 4 (drop at bytes.now)) }
+    ensures upper_bound { result < 2 ^ 32 }
+{
+    let a = wide(bytes[at]);
+    let b = wide(bytes[at + 1]);
+    let c = wide(bytes[at + 2]);
+    let d = wide(bytes[at + 3]);
+    a + TWO_8 * b + TWO_16 * c + TWO_24 * d
+}
+
+fn wide(byte: u8) -> u64
+    ensures value { result ≡ byte }
+    ensures upper_bound { result < 256 }
+{
+    byte as u64
 }
 
 // A record's step on the chip.

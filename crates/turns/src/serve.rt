@@ -39,6 +39,8 @@ pub struct Lent<'a, F: Format> {
 
 // Runs a format's records from standard input, and writes a heading and a line for each to standard output. A call that fails is named on
 // standard error, behind the program's name.
+// Into `main`, so that the buffers are places of its own there (docs/PERFORMANCE.md).
+#[inline(always)]
 pub fn run<F: Format>(rt: &HostRuntime, program: &str, lent: Lent<'_, F>) -> ExitCode {
     let Lent {
         format: _,
