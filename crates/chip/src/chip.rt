@@ -291,6 +291,8 @@ impl Chip {
     }
 }
 
+// Triggers. The MultiKron II has functions like these and some above over its own record: a trait over both would be longer than what it shares
+// (docs/DESIGN-PASS.md, "Kept").
 impl Chip {
     // A trigger, by its line, the settings, the Filter and the room.
     #[tactic(auto, unfolding(crate::specs::Chip::trigger))]

@@ -378,6 +378,8 @@ impl Chip2 {
     }
 }
 
+// Triggers. The first chip has functions like these and some above over its own record: a trait over both would be longer than what it shares
+// (docs/DESIGN-PASS.md, "Kept").
 impl Chip2 {
     // A trigger, by its line, the settings, the Filter and the room.
     #[tactic(auto, unfolding(crate::specs::Chip2::trigger))]

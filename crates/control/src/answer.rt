@@ -1,4 +1,4 @@
-// An operation's answer: the next record of either chip, with a value and a reply.
+// An operation's answer: the next record of either chip, with a value and a reply. A reply is no error: most of them answer what was done.
 ghost use Rattle.std.specs.Prelude.{◌≡◌};
 ghost use Rattle.control.specs.declared.reply.Reply.TheVariants.{Done};
 ghost use Rattle.control.specs.Reply.{row_of};

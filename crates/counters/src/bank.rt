@@ -84,6 +84,7 @@ impl Bank {
     pub fn copied(mut self) -> Bank
         ensures { result ≡ copied self }
     {
+        // By a name of its own: an array stored straight from one field into another gets no proof.
         let values = self.values;
         self.shadows = values;
         self

@@ -64,7 +64,7 @@ impl Fields {
     }
 }
 
-// Whether no field of a register is zero below `low`.
+// Whether no field of a register is zero below `low`, which is 4 or 8: too little for a type of its own.
 fn none_zero(bits: u64, low: u64) -> bool
     requires { 0 < low }
     ensures { result ≡ none_zero 16 low bits }

@@ -9,7 +9,7 @@ pub enum Edition {
     Second,
 }
 
-// How many bytes of the Timestamp a sample has.
+// How many bytes of the Timestamp a sample has; here and below a `match` is the table of the editions.
 pub fn stamp_bytes(edition: Edition) -> usize
     ensures { result ≡ (widths edition).stamp_bytes }
 {

@@ -28,7 +28,7 @@ pub fn length(edition: Edition, resource: bool) -> usize
     }
 }
 
-// The place of the first byte of user data.
+// The place of the first byte of user data, from the papers and not by the code that is tried.
 pub fn user_place(edition: Edition) -> usize
     ensures { (10 ≤ result) × (result ≤ 12) }
 {

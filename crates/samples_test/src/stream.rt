@@ -53,7 +53,7 @@ fn read_first(edition: Edition, name: &[u8], words: &[u16], count: usize) {
     read_on(edition, name, &words[..count]);
 }
 
-// Reads each sample after the one before, until the reader refuses or nothing is left.
+// Reads each sample after the one before, until the reader refuses or nothing is left. A `while`, since each turn goes on by what was read.
 fn read_on(edition: Edition, name: &[u8], words: &[u16]) {
     let mut at = 0;
     while at < words.len() {

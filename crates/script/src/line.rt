@@ -49,7 +49,7 @@ fn put_decimal(n: u64, out: &mut [u8], at: usize) -> usize
     at + size
 }
 
-// How many digits a number has.
+// How many digits a number has. A `while`, since it ends by what is left of the number and counts beside.
 fn width(n: u64) -> usize
     ensures value { result ≡ width_of 19 n }
     ensures upper_bound { result ≤ 20 }

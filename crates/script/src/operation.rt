@@ -31,7 +31,7 @@ pub enum Operation {
     Send,
 }
 
-// The next chip, the value, and document 01's reply number.
+// The next chip, the value, and document 01's reply number: no `Reply`, since 9 is none of a chip's.
 #[derive(Clone, Copy)]
 pub struct Outcome {
     pub chip: Chip,

@@ -10,7 +10,7 @@ use std::marker::PhantomData;
 use std::process::ExitCode;
 
 // What stands between two reads: the chip; how many bytes of the input's buffer have come, and of the text's were handed to the write; whether
-// the input has ended.
+// the input has ended, which says what of the bytes is due.
 #[derive(Clone, Copy)]
 pub(crate) struct Turn<C> {
     chip: C,

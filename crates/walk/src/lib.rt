@@ -52,7 +52,7 @@ pub fn at(edition: Edition, capture: &[u16], place: usize) -> Step
     }
 }
 
-// The place after the first boundary from a place on, or the capture's end.
+// The place after the first boundary from a place on, or the capture's end. Document 01 asks for a loop that gives it by `break`.
 fn after_boundary(capture: &[u16], start: usize) -> usize
     ensures { result ≡ after_boundary capture.now start }
 {

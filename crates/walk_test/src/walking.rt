@@ -8,7 +8,7 @@ pub fn over_first(edition: Edition, name: &[u8], words: [u16; 144], count: usize
     walk_on(edition, name, &words[..count.min(144)], start);
 }
 
-// A line for each sample and each gap, and one for the end.
+// A line for each sample and each gap, and one for the end. A `loop`, since each step names the next place and the end ends it.
 fn walk_on(edition: Edition, name: &[u8], capture: &[u16], start: usize) {
     let mut place = start;
     loop {
