@@ -69,10 +69,10 @@ fn serve<F: Format>(rt: &HostRuntime, input: &mut [u8], text: &mut [u8]) -> Resu
     };
     // A proved loop has to end, and nothing says that an input does: so many turns no run uses up.
     for _ in 0..u64::MAX {
-        turn = pass::<F>(rt, turn, input, text)?;
         if turn.ended {
             break;
         }
+        turn = pass::<F>(rt, turn, input, text)?;
     }
     Ok(())
 }

@@ -4,9 +4,9 @@ use Rattle.turns.proofs.TurnLaws.{served_start, served_turn}
 use Rattle.turns.proofs.serve.serve.Goals as goal
 
 pub loop-init : goal.loop-init
-loop-init g c = (refl, refl, refl, served_start g.F.Format.form g.met.F.Format.positive _ _ _ _ refl refl refl c.fresh.ensures)
+loop-init g c = (refl, refl, served_start g.F.Format.form g.met.F.Format.positive _ _ _ _ refl refl refl c.fresh.ensures)
 
 pub loop-preserved : goal.loop-preserved
 loop-preserved g c =
     let i = c.loop.invariant in
-    (search rules, search rules, c.if-turn.false, served_turn g.F.Format.form g.met.F.Format.positive i.3 i.2 c.in_ok-turn.ensures.ok)
+    (search rules, search rules, served_turn g.F.Format.form g.met.F.Format.positive i.2 c.if-turn.false c.in_ok-turn.ensures.ok)
