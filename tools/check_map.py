@@ -51,7 +51,7 @@ ALLOWED = {"Result", "pub", "requires", "src", "u32", "u64", "use"}
 NOT_READ = {"printing"}
 
 # The public functions that ask that a closure of their caller's may be called with what they call it with, and nothing else.
-MAY_CALL = {"words::number::number_by", "counters::bank::each_value", "chip_test::addresses::sweep"}
+MAY_CALL = {"words::number::number_by", "counters::bank::each_value"}
 # `F.pre f i v`, or `F.IsAlwaysCallable f`, for all numbers below a bound.
 CALLABLE = re.compile(r"\s*requires \{ (?:\([\w ]+ : ℕ\) → (?:\w+ < \w+ → )*F\.pre|F\.IsAlwaysCallable) [\w ]+ \}")
 

@@ -23,7 +23,7 @@ struct Span {
 }
 
 // The answers at the addresses or lines of a range.
-pub fn sweep<F: Fn(Chip, u64) -> Answer<Chip>>(
+pub(crate) fn sweep<F: Fn(Chip, u64) -> Answer<Chip>>(
     name: &[u8],
     chip: Chip,
     range: Range<u64>,

@@ -1,4 +1,4 @@
--- Documents 01 and 03, "The chip's operations": "Each operation is given the whole record and hands back the next one, with a reply number and a
+-- Document 01, "The chip's operations": "Each operation is given the whole record and hands back the next one, with a reply number and a
 -- 64-bit value". What an answer of either chip tells, by its reply's number.
 use Rattle.std.specs.Prelude.{ℕ}
 use Rattle.control.specs.Reply.{Row, reply_number}

@@ -20,7 +20,8 @@ module _ {C : Type 0} (f : Form C) where
     pub chip : after.chip ≡ input_chip f (due f after.ended (bytes_of after input)) before.chip
     pub answers : take after.written text ≡ input_text f (due f after.ended (bytes_of after input)) before.chip
 
-  -- a turn that a failed call ended, of which nothing more is told than that one with this was possible: with it the program ends, and no turn is handed on
+  -- a turn that a failed call ended, of which nothing more is told than that one with this was possible: with it the program ends, and no
+  -- turn is handed on
   pub record Stopped (before : Turn C) (input₀ input text : List ℕ) : Type 0 where
     pub after : Turn C
     pub turned : Turned before after input₀ input text
