@@ -259,7 +259,9 @@ impl Chip {
     fn source(self, index: usize) -> u32
         ensures { result ≡ get_or self.sources index 0 }
     {
-        self.sources.get(index).copied().unwrap_or(0)
+        // By a copy of their own: taken from the record, they make the compiler copy all of it (docs/PERFORMANCE.md).
+        let sources = self.sources;
+        sources.get(index).copied().unwrap_or(0)
     }
 
     // A counter through the shadows, or a wait, or no data.

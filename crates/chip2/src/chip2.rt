@@ -319,13 +319,16 @@ impl Chip2 {
     fn source(self, index: usize) -> u32
         ensures { result ≡ get_or self.sources index 0 }
     {
-        self.sources.get(index).copied().unwrap_or(0)
+        // By a copy of their own: taken from the record, they make the compiler copy all of it (docs/PERFORMANCE.md).
+        let sources = self.sources;
+        sources.get(index).copied().unwrap_or(0)
     }
 
     fn shadow(self, index: usize) -> u32
         ensures { result ≡ get_or self.bank.shadows index 0 }
     {
-        self.bank.shadows.get(index).copied().unwrap_or(0)
+        let shadows = self.bank.shadows;
+        shadows.get(index).copied().unwrap_or(0)
     }
 
     // The CSR as it is read.
@@ -392,23 +395,31 @@ impl Chip2 {
         }
     }
 
-    // The same, of a trigger with one active line.
+    // The same, of a trigger with one active line. Each arm that refuses returns: where the match is the function's value, the compiler copies the
+    // whole record at every write (docs/PERFORMANCE.md).
     #[tactic(auto, unfolding(crate::specs::Chip2::trigger_by))]
     fn trigger_line(self, resource: bool, level: usize, bits: u64, line: Line) -> Answer<Chip2>
         ensures { told result ≡ trigger_by (fate_of resource level self) resource line.number bits self }
     {
+        let control = self.control;
         let full = self.queue.full();
-        let blocked = self.queue.blocked(resource);
-        match self.control.fate(level, full, blocked) {
-            Fate::Off => Answer::replied(self, Reply::Off),
-            Fate::Filtered => Answer::replied(self, Reply::Filtered),
-            Fate::Wait => Answer::replied(self.controlled(self.control.waited()), Reply::Wait),
-            Fate::Lost => Answer::replied(
-                self.controlled(self.control.overran(full, blocked)),
-                Reply::Lost,
-            ),
-            Fate::Taken => Answer::done(self.take(resource, line, bits), 0),
+        // Every held sample is looked at, but for a trigger that is off or filtered.
+        let blocked = self
+            .queue
+            .blocked(resource & control.sampling & control.passes(level));
+        match control.fate(level, full, blocked) {
+            Fate::Off => return Answer::replied(self, Reply::Off),
+            Fate::Filtered => return Answer::replied(self, Reply::Filtered),
+            Fate::Wait => return Answer::replied(self.controlled(control.waited()), Reply::Wait),
+            Fate::Lost => {
+                return Answer::replied(
+                    self.controlled(control.overran(full, blocked)),
+                    Reply::Lost,
+                );
+            }
+            Fate::Taken => {}
         }
+        Answer::done(self.take(resource, line, bits), 0)
     }
 
     // A sample is taken as the record stands.

@@ -36,7 +36,9 @@ pub fn ticked(bank: Bank, f: Fields, lines: u16, clocks: Clocks) -> Bank
 pub fn signalled(bank: Bank, f: Fields, mask: u16) -> Bank
     ensures { result ≡ signalled f mask bank }
 {
-    counted(bank, f.mode, |i| signals_for(f, i, (mask >> i) % 2 == 1))
+    // All of them before the first counter grows, for speed (docs/PERFORMANCE.md).
+    let hits = each_value([0; 16], |i, _| signals_for(f, i, (mask >> i) % 2 == 1));
+    counted(bank, f.mode, |i| hits[i])
 }
 
 // A software event for one counter.
@@ -119,7 +121,7 @@ fn ticks_for(f: Fields, i: usize, high: bool, clocks: Clocks) -> u32
 fn signals_for(f: Fields, i: usize, hit: bool) -> u32
     ensures { result ≡ (if enabled (enable_of f i) && (by_external (mode_of f i) && hit) then 1 else 0) }
 {
-    u32::from((source_at(f, i) == Source::External) & hit)
+    u32::from(is_enabled(f, i) & (source_of(field(f.mode, i) % 8) == Source::External) & hit)
 }
 
 // Whether a software event counts for a counter: 1 or 0.
@@ -136,7 +138,14 @@ fn source_at(f: Fields, i: usize) -> Source
     if !is_enabled(f, i) {
         return Source::Nothing;
     }
-    match field(f.mode, i) % 8 {
+    source_of(field(f.mode, i) % 8)
+}
+
+// What the low three bits of a Mode field say.
+fn source_of(mode: u64) -> Source
+    ensures { result ≡ source_of mode }
+{
+    match mode {
         1 | 5 => Source::Clock,
         2 | 6 => Source::Software,
         3 | 7 => Source::ClockWhileHigh,

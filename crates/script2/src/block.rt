@@ -2,11 +2,13 @@
 ghost use Rattle.std.proofs.Common.{rules};
 ghost use Rattle.std.specs.Prelude.{◌≡◌, length, refl};
 ghost use Rattle.chip2.specs.Chip2.{fresh as fresh_chip};
+ghost use Rattle.chip2.specs.Told.{told};
 ghost use Rattle.script2.specs.Run.{block_buffer, block_of, second};
 
 use super::line::{put_plain, put_sent};
 use super::operation::{Operation, decode};
 use chip2::chip2::Chip2;
+use control::answer::Answer;
 use turns::format::{Block, Format};
 use words::parity::parities;
 
@@ -57,27 +59,39 @@ pub fn run_block(chip: Chip2, input: &[u8], out: &mut [u8]) -> Block<Chip2>
             at = put_plain(9, 0, out, at);
             continue;
         };
-        let mut sent = 0;
-        let answer = match operation {
-            Operation::Reset => state.hardware_reset(),
-            Operation::Write(address, bits, lines) => state.write(address, bits, lines),
-            Operation::Read(address) => state.read(address),
-            Operation::Ticks(number, levels) => state.timestamp_ticks(number, levels),
-            Operation::Nodes(number, levels) => state.node_ticks(number, levels),
-            Operation::Events(mask) => state.external_events(mask),
-            Operation::Send => state.send_by(&table),
+        let (number, value) = match operation {
+            Operation::Reset => kept(state.hardware_reset(), &mut state),
+            Operation::Write(address, bits, lines) => {
+                kept(state.write(address, bits, lines), &mut state)
+            }
+            Operation::Read(address) => kept(state.read(address), &mut state),
+            Operation::Ticks(number, levels) => {
+                kept(state.timestamp_ticks(number, levels), &mut state)
+            }
+            Operation::Nodes(number, levels) => kept(state.node_ticks(number, levels), &mut state),
+            Operation::Events(mask) => kept(state.external_events(mask), &mut state),
+            Operation::Send => kept(state.send_by(&table), &mut state),
             Operation::Fill(places) => {
-                let answer = state.send_into(&mut words[..places]);
-                sent = answer.value as usize;
-                answer
+                let (number, value) = kept(state.send_into(&mut words[..places]), &mut state);
+                let sent = value as usize;
+                at = put_sent(number, value, &words[..sent], out, at);
+                continue;
             }
         };
-        state = answer.chip;
-        at = put_sent(answer.reply.number(), answer.value, &words[..sent], out, at);
+        at = put_plain(number, value, out, at);
     }
     Block {
         chip: state,
         records: count,
         written: at,
     }
+}
+
+// Stores an answer's chip, and leaves its reply's number and its value. Each kind of operation does so by itself, so that the compiler changes
+// the chip in place (docs/PERFORMANCE.md).
+fn kept(answer: Answer<Chip2>, chip: &mut Chip2) -> (u64, u64)
+    ensures { record { chip = chip.new; number = result.0; value = result.1 } ≡ told answer }
+{
+    *chip = answer.chip;
+    (answer.reply.number(), answer.value)
 }
