@@ -1,5 +1,6 @@
 // The turns of a program: each takes what there is to read, answers the records that are whole then, and writes their lines.
-ghost use Rattle.std.specs.Prelude.{◌+◌, ◌*◌, ◌-◌, ◌≤◌, ◌<◌, ◌≡◌, false, drop, length, take, IfOk, OnErr};
+ghost use Rattle.std.specs.Prelude.{◌+◌, ◌*◌, ◌-◌, ◌≤◌, ◌<◌, ◌≡◌, cond, false, drop, is_ok, length, take, IfOk, OnErr};
+ghost use Rattle.std.specs.Process.{exit_status};
 ghost use Rattle.turns.specs.Run.{due, due_size, input_chip, input_text, record_count, whole_size};
 ghost use Rattle.turns.specs.Turn.{Stopped, Turned};
 
@@ -41,13 +42,22 @@ pub struct Lent<'a, F: Format> {
 // standard error, behind the program's name.
 // Into `main`, so that the buffers are places of its own there (docs/PERFORMANCE.md).
 #[inline(always)]
-pub fn run<F: Format>(rt: &HostRuntime, program: &str, lent: Lent<'_, F>) -> ExitCode {
+pub fn run<F: Format>(rt: &HostRuntime, program: &str, lent: Lent<'_, F>) -> ExitCode
+    ensures { exit_status result ≤ 1 }
+{
     let Lent {
         format: _,
         input,
         text,
     } = lent;
-    match serve::<F>(rt, input, text) {
+    ended(rt, program, serve::<F>(rt, input, text))
+}
+
+// A program's status: 0, or 1 after a call that failed, which is told.
+fn ended(rt: &HostRuntime, program: &str, served: Result<(), Failure>) -> ExitCode
+    ensures { exit_status result ≡ cond (is_ok served) 0 1 }
+{
+    match served {
         Ok(()) => ExitCode::SUCCESS,
         Err(failure) => {
             tell(rt, program, failure);
