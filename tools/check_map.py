@@ -25,7 +25,7 @@ Of WRONG-PROGRAMS:
 Of the files themselves:
 - Every old text of an edit, in the gate or in tools/edits, or of a version
   occurs as often as it has to in the file that it changes.
-- No public function has a `requires`, of a program neither, but for the three
+- No public function has a `requires`, of a program neither, but for the two
   of MAY_CALL, which ask only that the closure that they are lent may be called.
 
 Faults are listed, and the status is 1; else one line says what was checked.

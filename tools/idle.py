@@ -77,7 +77,7 @@ VERSIONS = {
             ('crates/queue/src/queue.rt', '{◌≡◌, ◌&&◌, eqb, ', '{◌≡◌, true, eqb, '),
             ('crates/chip/specs/Chip.antt', 'blocked resource q = resource && busy q', 'blocked resource q = cond resource (busy q) true'),
             ('crates/chip/specs/Chip.antt', 'Bool, false, cond, ', 'Bool, true, false, cond, '),
-        ], [], [('chip', 'rows_room')]),
+        ], ['queue'], [('chip', 'rows_room')]),
     'refuses_every_trigger': (
         'no processor lines are one line, so every trigger is answered with 4', [
             ('crates/chip/src/line.rt', 'lines.count_ones() == 1', 'lines.count_ones() == 9'),
